@@ -1,0 +1,87 @@
+//! The bodies without lists: the functions with a length argument, the ticket,
+//! the status, the next protocol, the key update, the hello request.
+
+use super::collect::Cases;
+use crate::bytes::{announced, hex, join, run};
+use crate::functions::{MSG_TICKET, SIZED};
+
+pub fn add(cases: &mut Cases) {
+    lengths(cases);
+    tickets(cases);
+    statuses(cases);
+    next_protocols(cases);
+    for body in ["", "00", "01", "ff", "0001", "00ff00"] {
+        [24, 0, 5].into_iter().for_each(|kind| cases.everywhere(kind, &hex(body)));
+    }
+    for body in ["", "7f", "7f12", "7f1213", "7f121301", "0303", "03040000", "0000000000000000"] {
+        cases.mostly(6, &hex(body));
+    }
+}
+
+/// Length arguments from 0, round the bytes there are, and very large.
+fn lengths(cases: &mut Cases) {
+    for name in SIZED {
+        let sizes: &[u64] = if name == MSG_TICKET { &[0, 1, 3, 4, 5, 9] } else { &[0, 1, 5] };
+        for there in sizes.iter().copied() {
+            let input: Vec<u8> = (1..=there as u8).collect();
+            let round = [there.saturating_sub(1), there, there + 1];
+            let large = [0xff_ffff, 1 << 32, u64::MAX];
+            for length in (0..=5).chain(round).chain(large) {
+                cases.add_sized(name, length, &input);
+            }
+        }
+        let long = run(0x5a, 70_000);
+        [69_999, 70_000, 70_001].into_iter().for_each(|n| cases.add_sized(name, n, &long));
+    }
+}
+
+fn tickets(cases: &mut Cases) {
+    for n in 0..=9 {
+        cases.everywhere(4, &hex("ff010203 0002aabbcc")[..n]);
+    }
+    cases.everywhere(4, &hex("ffffffff"));
+    cases.everywhere(4, &join(&[&[0; 4], &run(0x5a, 400)]));
+    for length in [u64::MAX - 3, u64::MAX - 4, (1 << 63) + 4, (1 << 32) + 4] {
+        cases.add_sized(MSG_TICKET, length, &hex("00000e10 aabb"));
+    }
+}
+
+fn statuses(cases: &mut Cases) {
+    for body in ["", "01", "0100", "010000", "01000000", "00000000", "ff000001", "01000001aa", "01000001aaee"]
+    {
+        cases.everywhere(22, &hex(body));
+    }
+    for n in [255usize, 65536] {
+        for there in [n - 1, n, n + 1] {
+            let blob = announced(3, n, &run(0x5a, there));
+            cases.mostly(22, &join(&[&[1], &blob]));
+        }
+    }
+    cases.everywhere(22, &hex("01ffffff"));
+}
+
+fn next_protocols(cases: &mut Cases) {
+    for body in [
+        "",
+        "00",
+        "01",
+        "0000",
+        "000000",
+        "0001",
+        "0001aa",
+        "01aa",
+        "01aa00",
+        "01aa01",
+        "01aa01bb",
+        "01aa01bbee",
+        "0001aaee",
+    ] {
+        cases.mostly(67, &hex(body));
+    }
+    for there in [254, 255, 256, 257] {
+        cases.mostly(67, &announced(1, 255, &run(0x5a, there)));
+        cases.mostly(67, &join(&[&[0], &announced(1, 255, &run(0x5a, there))]));
+        cases
+            .mostly(67, &join(&[&announced(1, 255, &run(0x5a, 255)), &announced(1, 255, &run(0xa5, there))]));
+    }
+}

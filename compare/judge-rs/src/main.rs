@@ -1,0 +1,65 @@
+//! The commands of the judge.
+
+use judge::{answer::answer, case::Case, count, generate::generate, text};
+use std::io::{self, BufRead, BufWriter, Write};
+use std::panic::{catch_unwind, AssertUnwindSafe};
+use std::process::exit;
+
+const USAGE: &str = "judge generate SEED COUNT    prints COUNT cases
+judge answer                 reads cases, prints them with the crate's answers
+judge count                  reads answered cases, prints a table of them";
+
+fn main() -> io::Result<()> {
+    let words: Vec<String> = std::env::args().skip(1).collect();
+    let words: Vec<&str> = words.iter().map(String::as_str).collect();
+    match words[..] {
+        ["generate", seed, many] => print_cases(number(seed), number(many)),
+        ["answer"] => print_answers(),
+        ["count"] => print_counts(),
+        _ => usage(),
+    }
+}
+
+fn usage() -> ! {
+    eprintln!("{USAGE}");
+    exit(2)
+}
+
+fn number(word: &str) -> u64 {
+    word.parse().unwrap_or_else(|_| usage())
+}
+
+fn print_cases(seed: u64, many: u64) -> io::Result<()> {
+    let mut out = BufWriter::new(io::stdout().lock());
+    generate(seed, many, &mut |case| writeln!(out, "{case}"))
+}
+
+fn print_answers() -> io::Result<()> {
+    let mut out = BufWriter::new(io::stdout().lock());
+    for line in lines() {
+        let line = line?;
+        let case: Case = line.parse().unwrap_or_else(|e| stop(&line, e));
+        // A panic here is the crate's, or an answer that the text cannot say.
+        let numbers = catch_unwind(AssertUnwindSafe(|| answer(&case)))
+            .unwrap_or_else(|_| stop(&line, "no answer".into()));
+        writeln!(out, "{case} = {}", text::numbers(&numbers))?;
+    }
+    Ok(())
+}
+
+fn print_counts() -> io::Result<()> {
+    let all: io::Result<Vec<String>> = lines().collect();
+    print!("{}", count::table(&all?));
+    Ok(())
+}
+
+/// The lines of standard input without comments.
+fn lines() -> impl Iterator<Item = io::Result<String>> {
+    let said = |line: &io::Result<String>| !matches!(line, Ok(l) if l.is_empty() || l.starts_with('#'));
+    io::stdin().lock().lines().filter(said)
+}
+
+fn stop(line: &str, why: String) -> ! {
+    eprintln!("stopped: {why}\nat: {line}");
+    exit(1)
+}

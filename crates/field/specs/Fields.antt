@@ -1,0 +1,41 @@
+-- A field, its rule, and what reading it at a place finds. RFC 5246 4.3: a variable-length vector is its length in bytes and then its bytes.
+use Prim.Native.Nat.{ℕ, _%_}
+use mathlib.Core.List.{List}
+use mathlib.Core.Bool.{Bool, true}
+use lib.Dec.{leb, eqb}
+use Rattle.refusal.specs.Answers.{Answer, refused, then}
+use Rattle.refusal.specs.Refusals.{refusal}
+use Rattle.refusal.specs.declared.Reason.{Reason}
+use Rattle.refusal.specs.declared.Reason.the-variants.{Incomplete, Verify, LengthValue}
+use Rattle.wire.specs.Parts.{pick, partAt}
+use Rattle.wire.specs.Numbers.{numberAt}
+use Rattle.wire.specs.declared.view.Part.{Part}
+use Rattle.field.specs.declared.Kind.{Kind}
+use Rattle.field.specs.declared.Kind.the-variants.{Plain, SessionId, Ciphers, Methods}
+
+-- the rule of a length: which are allowed, the refusal of another, and the refusal where the bytes run past the end
+pub record Rule : Type 0 where
+  pub allows : ℕ → Bool
+  pub broken : Reason
+  pub past : Reason
+
+-- document 01's table: Verify for a session id over 32; LengthValue for ciphers odd or past the end, and for methods past the end; else Incomplete
+abbrev pub ruleOf : Kind → Rule
+ruleOf Plain = record { allows = λ n. true; broken = Incomplete; past = Incomplete }
+ruleOf SessionId = record { allows = λ n. leb n 32; broken = Verify; past = Incomplete }
+ruleOf Ciphers = record { allows = λ n. eqb (n % 2) 0; broken = LengthValue; past = LengthValue }
+ruleOf Methods = record { allows = λ n. true; broken = LengthValue; past = LengthValue }
+
+-- a fixed number of bytes, or a length of w bytes and that many bytes
+pub data Field : Type 0 where
+  fixed : ℕ → Field
+  counted : ℕ → Rule → Field
+
+-- the n bytes from a place on, n being the length announced
+unfoldable pub ruled : Rule → List ℕ → ℕ → ℕ → Answer Part
+ruled r s at n = pick (r .allows n) (partAt (r .past) s at n) (refused (refusal (r .broken) at 0))
+
+-- the field that begins at a place
+unfoldable pub step : Field → List ℕ → ℕ → Answer Part
+step (fixed n) s at = partAt Incomplete s at n
+step (counted w r) s at = then (numberAt w s at) (λ l. ruled r s (l .next) (l .value))

@@ -1,0 +1,76 @@
+// A fixed part, and a part behind its length by the rule of what it is.
+ghost use mathlib.Core.Path.{_≡_};
+ghost use Rattle.wire.specs.Numbers.{bytesIn};
+ghost use Rattle.wire.specs.Parts.{partSays};
+ghost use Rattle.field.specs.Fields.{Field, step, ruleOf};
+use refusal::Reason;
+use wire::number::NumberAnswer;
+use wire::number::Width;
+use wire::view::PartAnswer;
+
+// What stands behind a length, which decides the rule of its length.
+pub enum Kind {
+    Plain,
+    SessionId,
+    Ciphers,
+    Methods,
+}
+
+// The next `n` bytes.
+pub fn take(s: &[u8], at: usize, n: usize) -> PartAnswer
+    ensures { λ r. ⌜ partSays r ≡ step (Field.fixed n) (now (s .entry)) at ⌝ }
+{
+    wire::view::take_or(s, at, n, Reason::Incomplete)
+}
+
+fn allows(kind: Kind, n: usize) -> bool
+    ensures { λ r. ⌜ r ≡ ruleOf kind .allows n ⌝ }
+{
+    match kind {
+        Kind::Plain => true,
+        Kind::SessionId => n <= 32,
+        Kind::Ciphers => n % 2 == 0,
+        Kind::Methods => true,
+    }
+}
+
+// The refusal of a length that the kind does not allow.
+fn broken(kind: Kind) -> Reason
+    ensures { λ r. ⌜ r ≡ ruleOf kind .broken ⌝ }
+{
+    match kind {
+        Kind::Plain => Reason::Incomplete,
+        Kind::SessionId => Reason::Verify,
+        Kind::Ciphers => Reason::LengthValue,
+        Kind::Methods => Reason::LengthValue,
+    }
+}
+
+// The refusal where the bytes run past the end.
+fn past(kind: Kind) -> Reason
+    ensures { λ r. ⌜ r ≡ ruleOf kind .past ⌝ }
+{
+    match kind {
+        Kind::Plain => Reason::Incomplete,
+        Kind::SessionId => Reason::Incomplete,
+        Kind::Ciphers => Reason::LengthValue,
+        Kind::Methods => Reason::LengthValue,
+    }
+}
+
+// A part behind its length.
+pub fn length_data(s: &[u8], at: usize, w: Width, kind: Kind) -> PartAnswer
+    ensures { λ r. ⌜ partSays r ≡ step (Field.counted (bytesIn w) (ruleOf kind)) (now (s .entry)) at ⌝ }
+{
+    let n = match wire::number::parse_be(s, at, w) {
+        NumberAnswer::Refused(r) => {
+            return PartAnswer::Refused(r);
+        }
+        NumberAnswer::Got(n) => n,
+    };
+    if allows(kind, n.value) {
+        wire::view::take_or(s, n.next, n.value, past(kind))
+    } else {
+        PartAnswer::Refused(refusal::refuse(broken(kind), n.next, 0))
+    }
+}

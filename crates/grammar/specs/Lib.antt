@@ -1,0 +1,4 @@
+pub mod Grammars
+pub mod Hellos
+pub mod Reading
+pub mod Demand3

@@ -1,0 +1,3 @@
+pub mod Walk
+pub mod Fixed
+pub mod Listed

@@ -1,0 +1,26 @@
+// What users name: the public types and functions of the layers, under one roof.
+pub use field::Kind;
+pub use field::length_data;
+pub use field::take;
+pub use grammar::OptPart;
+pub use grammar::opt_length_data;
+pub use list::items::item_at;
+pub use list::items::item_count;
+pub use list::items::item_from;
+pub use list::numbers::number_at;
+pub use list::numbers::number_count;
+pub use refusal::Reason;
+pub use refusal::Refusal;
+pub use refusal::refusal_number;
+pub use wire::number::Number;
+pub use wire::number::NumberAnswer;
+pub use wire::number::Width;
+pub use wire::number::WriteAnswer;
+pub use wire::number::gen_be;
+pub use wire::number::parse_be;
+pub use wire::number::width_bytes;
+pub use wire::view::OptView;
+pub use wire::view::Part;
+pub use wire::view::PartAnswer;
+pub use wire::view::View;
+pub use wire::view::part_of;

@@ -1,0 +1,68 @@
+-- Numbers and values lose nothing: two answers with the same number of the paper and the same values are the same answer.
+-- Assumes nothing.
+use Prim.Native.Nat.{ℕ}
+use mathlib.Core.Path.{_≡_, refl, sym, ap, _∙_}
+use mathlib.Core.List.{List, [], _∷_}
+use native.Mathlib.Omega.{arith}
+use lib.ListN.{getD}
+use Rattle.refusal.specs.Refusals.{numberOf}
+use Rattle.refusal.specs.Answers.{Answer, accepted, refused, numberIn, valuesIn}
+use Rattle.refusal.specs.declared.Reason.{Reason}
+use Rattle.refusal.specs.declared.Reason.the-variants.{Incomplete, Complete, Verify, LengthValue, Tag, Switch, TooLarge, BadLength, NoRoom, Elsewhere, NoSuch, NotYetImplemented}
+use Rattle.refusal.specs.declared.Refusal.{Refusal}
+
+-- the table's rows, from 1 on
+rows : List Reason
+rows = Incomplete ∷ Incomplete ∷ Complete ∷ Verify ∷ LengthValue ∷ Tag ∷ Switch ∷ TooLarge ∷ BadLength ∷ NoRoom ∷ Elsewhere ∷ NoSuch ∷ NotYetImplemented ∷ []
+
+row-of : (r : Reason) → getD rows (numberOf r) Incomplete ≡ r
+unfolding rows
+row-of Incomplete = refl
+row-of Complete = refl
+row-of Verify = refl
+row-of LengthValue = refl
+row-of Tag = refl
+row-of Switch = refl
+row-of TooLarge = refl
+row-of BadLength = refl
+row-of NoRoom = refl
+row-of Elsewhere = refl
+row-of NoSuch = refl
+row-of NotYetImplemented = refl
+
+-- a number of the table is that of one reason
+pub one-reason : (r r′ : Reason) → numberOf r ≡ numberOf r′ → r ≡ r′
+one-reason r r′ e = sym (row-of r) ∙ ap (λ (n : ℕ). getD rows n Incomplete) e ∙ row-of r′
+
+one-refusal : (r r′ : Refusal) → r .reason ≡ r′ .reason → r ≡ r′
+one-refusal r r′ e = ap (λ (why : Reason). record { reason = why }) e
+
+-- no refusal has the number 0
+not-zero : (r : Reason) → 0 ≡ numberOf r → ⊥
+not-zero Incomplete e = omega (arith, e)
+not-zero Complete e = omega (arith, e)
+not-zero Verify e = omega (arith, e)
+not-zero LengthValue e = omega (arith, e)
+not-zero Tag e = omega (arith, e)
+not-zero Switch e = omega (arith, e)
+not-zero TooLarge e = omega (arith, e)
+not-zero BadLength e = omega (arith, e)
+not-zero NoRoom e = omega (arith, e)
+not-zero Elsewhere e = omega (arith, e)
+not-zero NoSuch e = omega (arith, e)
+not-zero NotYetImplemented e = omega (arith, e)
+
+pub told : {A : Type 0} (x y : Answer A) → numberIn x ≡ numberIn y → valuesIn x ≡ valuesIn y → x ≡ y
+told (accepted a) (accepted b) n v = cc
+told (accepted a) (refused r) n v = absurd (not-zero (r .reason) n)
+told (refused r) (accepted b) n v = absurd (not-zero (r .reason) (sym n))
+told (refused r) (refused r′) n v = ap refused (one-refusal r r′ (one-reason (r .reason) (r′ .reason) n))
+
+-- what a function ensures of its answer, where the answer was found to be one case
+pub case : {A B : Type 0} (says : B → Answer A) {o x : B} {a : Answer A} → says o ≡ a → o ≡ x → a ≡ says x
+case says e g = sym e ∙ ap says g
+
+-- an enum with a way back from what it says loses nothing either
+pub tells-all : {A B : Type 0} (says : B → Answer A) (back : Answer A → B) → ((b : B) → back (says b) ≡ b)
+    → (x y : B) → numberIn (says x) ≡ numberIn (says y) → valuesIn (says x) ≡ valuesIn (says y) → x ≡ y
+tells-all says back home x y n v = sym (home x) ∙ ap back (told (says x) (says y) n v) ∙ home y

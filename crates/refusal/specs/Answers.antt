@@ -1,0 +1,25 @@
+-- Demand 1: a call ends with a value or one refusal. Each answer of the code that is an enum has its `Says`, by cases, into this: the paper's
+-- number and the values. That `Says` loses nothing is shown in `proofs/Told.antt`.
+use Prim.Native.Nat.{ℕ}
+use mathlib.Core.Option.{Option, none, some}
+use Rattle.refusal.specs.Refusals.{numberOf}
+use Rattle.refusal.specs.declared.Refusal.{Refusal}
+
+pub data Answer (A : Type 0) : Type 0 where
+  accepted : A → Answer A
+  refused : Refusal → Answer A
+
+-- the paper's number: 0 accepted, 1 to 12 the table's
+abbrev pub numberIn : {A : Type 0} → Answer A → ℕ
+numberIn (accepted a) = 0
+numberIn (refused r) = numberOf (r .reason)
+
+-- the values: there are some where it is accepted
+abbrev pub valuesIn : {A : Type 0} → Answer A → Option A
+valuesIn (accepted a) = some a
+valuesIn (refused r) = none
+
+-- go on with the value, or hand on the refusal: the Rust's `?`
+abbrev pub then : {A B : Type 0} → Answer A → (A → Answer B) → Answer B
+then (accepted a) k = k a
+then (refused r) k = refused r

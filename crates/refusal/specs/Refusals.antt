@@ -1,0 +1,23 @@
+-- Document 01, "What the tap says when it says no": the table's numbers, and what a refusal is made from.
+use Prim.Native.Nat.{ℕ}
+use Rattle.refusal.specs.declared.Reason.{Reason}
+use Rattle.refusal.specs.declared.Reason.the-variants.{Incomplete, Complete, Verify, LengthValue, Tag, Switch, TooLarge, BadLength, NoRoom, Elsewhere, NoSuch, NotYetImplemented}
+use Rattle.refusal.specs.declared.Refusal.{Refusal}
+
+abbrev pub numberOf : Reason → ℕ
+numberOf Incomplete = 1
+numberOf Complete = 2
+numberOf Verify = 3
+numberOf LengthValue = 4
+numberOf Tag = 5
+numberOf Switch = 6
+numberOf TooLarge = 7
+numberOf BadLength = 8
+numberOf NoRoom = 9
+numberOf Elsewhere = 10
+numberOf NoSuch = 11
+numberOf NotYetImplemented = 12
+
+-- the refusal of an item that begins at a place and lacks so many bytes: it carries its number alone
+unfoldable pub refusal : Reason → ℕ → ℕ → Refusal
+refusal why at lack = record { reason = why }

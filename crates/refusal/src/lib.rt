@@ -1,0 +1,52 @@
+// Why the tap says no: document 01's table as one type, and the only place where a refusal is made.
+ghost use mathlib.Core.Path.{_≡_};
+ghost use Rattle.refusal.specs.Refusals.{numberOf, refusal};
+
+// The table's rows 1 to 12, in its order.
+pub enum Reason {
+    Incomplete,
+    Complete,
+    Verify,
+    LengthValue,
+    Tag,
+    Switch,
+    TooLarge,
+    BadLength,
+    NoRoom,
+    Elsewhere,
+    NoSuch,
+    NotYetImplemented,
+}
+
+// What a refusal carries: its reason alone.
+pub struct Refusal {
+    pub reason: Reason,
+}
+
+// The refusal of an item that begins at `at` and lacks `lack` bytes. Both are told here and kept nowhere yet.
+pub fn refuse(reason: Reason, at: usize, lack: usize) -> Refusal
+    ensures { λ r. ⌜ r ≡ refusal reason at lack ⌝ }
+{
+    Refusal { reason }
+}
+
+// The number of the table's row.
+pub fn refusal_number(r: Refusal) -> u8
+    ensures { λ n. ⌜ n ≡ numberOf (r .reason) ⌝ }
+{
+    let reason = r.reason;
+    match reason {
+        Reason::Incomplete => 1,
+        Reason::Complete => 2,
+        Reason::Verify => 3,
+        Reason::LengthValue => 4,
+        Reason::Tag => 5,
+        Reason::Switch => 6,
+        Reason::TooLarge => 7,
+        Reason::BadLength => 8,
+        Reason::NoRoom => 9,
+        Reason::Elsewhere => 10,
+        Reason::NoSuch => 11,
+        Reason::NotYetImplemented => 12,
+    }
+}

@@ -1,0 +1,53 @@
+-- Numbers of any width. Document 01: "Numbers are big-endian." RFC 5246 4.1 gives the sum of the bytes, 4.4 the widths.
+use Prim.Native.Nat.{ℕ, zero, suc, _+_, _*_, _/_, _%_, _^_, _<_}
+use mathlib.Core.List.{List, [], _∷_, _++_}
+use lib.ListN.{getD}
+use lib.Dec.{ltb}
+use Rattle.refusal.specs.Answers.{Answer, accepted, refused, then}
+use Rattle.refusal.specs.Refusals.{refusal}
+use Rattle.refusal.specs.declared.Reason.the-variants.{Incomplete, BadLength}
+use Rattle.wire.specs.Parts.{pick, partAt}
+use Rattle.wire.specs.declared.number.Width.{Width}
+use Rattle.wire.specs.declared.number.Width.the-variants.{One, Two, Three, Four}
+use Rattle.wire.specs.declared.number.Number.{Number}
+use Rattle.wire.specs.declared.number.NumberAnswer.{NumberAnswer}
+use Rattle.wire.specs.declared.number.NumberAnswer.the-variants.{Refused, Got}
+
+-- the widths in use: uint8, uint16, uint24, uint32
+abbrev pub bytesIn : Width → ℕ
+bytesIn One = 1
+bytesIn Two = 2
+bytesIn Three = 3
+bytesIn Four = 4
+
+-- a list of bytes
+abbrev pub Bytes : List ℕ → Type 0
+Bytes s = (i : ℕ) → getD s i 0 < 256
+
+-- the number of the w bytes from a place on, the first byte the highest
+unfoldable pub be : ℕ → List ℕ → ℕ → ℕ
+be zero s at = 0
+be (suc w) s at = be w s at * 256 + getD s (at + w) 0
+
+-- the w bytes of a number, the highest first
+unfoldable pub bytesOf : ℕ → ℕ → List ℕ
+bytesOf zero n = []
+bytesOf (suc w) n = bytesOf w (n / 256) ++ (n % 256 ∷ [])
+
+-- reading: the number at a place, and the place past it
+unfoldable pub numberAt : ℕ → List ℕ → ℕ → Answer Number
+numberAt w s at = then (partAt Incomplete s at w) (λ p. accepted (record { value = be w s at; next = p .next }))
+
+-- a number that was found is one of w bytes
+abbrev pub Below : ℕ → NumberAnswer → Type 0
+Below w (Refused r) = Unit
+Below w (Got n) = n .value < 256 ^ w
+
+-- writing: the number's bytes, where w bytes can hold it
+unfoldable pub numberText : ℕ → ℕ → Answer (List ℕ)
+numberText w n = pick (ltb n (256 ^ w)) (accepted (bytesOf w n)) (refused (refusal BadLength 0 0))
+
+-- the paper's number and values of each case
+abbrev pub numberSays : NumberAnswer → Answer Number
+numberSays (Refused r) = refused r
+numberSays (Got n) = accepted n

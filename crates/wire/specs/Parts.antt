@@ -1,0 +1,35 @@
+-- Parts of the bytes lent: what a view names, and the bytes from a place on. Document 01: "a view that lies outside the bytes given with it
+-- yields the empty part".
+use Prim.Native.Nat.{ℕ, _+_, _-_}
+use mathlib.Core.List.{List, []}
+use mathlib.Core.Bool.{Bool, true, false}
+use lib.ListN.{length, take, drop}
+use lib.Dec.{leb}
+use Rattle.refusal.specs.Answers.{Answer, accepted, refused}
+use Rattle.refusal.specs.Refusals.{refusal}
+use Rattle.refusal.specs.declared.Reason.{Reason}
+use Rattle.wire.specs.declared.view.View.{View}
+use Rattle.wire.specs.declared.view.Part.{Part}
+use Rattle.wire.specs.declared.view.PartAnswer.{PartAnswer}
+use Rattle.wire.specs.declared.view.PartAnswer.the-variants.{Refused, Got}
+
+-- the first where the test holds, else the second
+abbrev pub pick : {A : Type 0} → Bool → A → A → A
+pick true a b = a
+pick false a b = b
+
+-- the bytes of a view, or none where it lies outside
+abbrev pub partOf : List ℕ → View → List ℕ
+partOf s v = pick (leb (v .start + v .len) (length s)) (take (v .len) (drop (v .start) s)) []
+
+-- the n bytes from a place on, or the refusal: of the n bytes, those past the end are lacking
+unfoldable pub partAt : Reason → List ℕ → ℕ → ℕ → Answer Part
+partAt past s at n =
+    pick (leb (at + n) (length s))
+    (accepted (record { view = record { start = at; len = n }; next = at + n }))
+    (refused (refusal past at (n - (length s - at))))
+
+-- the paper's number and values of each case
+abbrev pub partSays : PartAnswer → Answer Part
+partSays (Refused r) = refused r
+partSays (Got p) = accepted p

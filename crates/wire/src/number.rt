@@ -1,0 +1,118 @@
+// Big-endian numbers of 1, 2, 3 and 4 bytes (RFC 5246 4.4), read and written.
+ghost use mathlib.Core.Path.{_≡_};
+ghost use Prim.Native.Nat.{_+_, _^_, _≤_, _<_};
+ghost use lib.ListN.{length};
+ghost use Rattle.wire.specs.Numbers.{be, bytesOf, bytesIn, numberAt, numberSays, numberText, Below};
+ghost use Rattle.wire.specs.Puts.{put, room, written, writeSays};
+use crate::view::PartAnswer;
+use refusal::Reason;
+use refusal::Refusal;
+
+// How many bytes a number has.
+pub enum Width {
+    One,
+    Two,
+    Three,
+    Four,
+}
+
+// A number that was found, and the place past it.
+pub struct Number {
+    pub value: usize,
+    pub next: usize,
+}
+
+pub enum NumberAnswer {
+    Refused(Refusal),
+    Got(Number),
+}
+
+// The place past what was written, or why nothing was.
+pub enum WriteAnswer {
+    Refused(Refusal),
+    Wrote(usize),
+}
+
+pub fn width_bytes(w: Width) -> usize
+    ensures { λ r. ⌜ r ≡ bytesIn w ⌝ }
+{
+    match w {
+        Width::One => 1,
+        Width::Two => 2,
+        Width::Three => 3,
+        Width::Four => 4,
+    }
+}
+
+// The first number that is too large for the width.
+fn limit(w: Width) -> usize
+    ensures { λ r. ⌜ r ≡ 256 ^ bytesIn w ⌝ }
+{
+    match w {
+        Width::One => 0x100,
+        Width::Two => 0x1_0000,
+        Width::Three => 0x100_0000,
+        Width::Four => 0x1_0000_0000,
+    }
+}
+
+// The number of the `count` bytes from `at` on.
+fn number_of(s: &[u8], at: usize, count: usize) -> usize
+    requires { ⌜ (count ≤ 4) × (at + count ≤ length (now s)) ⌝ }
+    ensures { λ r. ⌜ (r ≡ be count (now (s .entry)) at) × (r < 256 ^ count) ⌝ }
+{
+    let mut n: usize = 0;
+    let mut k: usize = 0;
+    while k < count {
+        n = n * 256 + (s[at + k] as usize);
+        k += 1;
+    }
+    n
+}
+
+// The number that stands at a place.
+pub fn parse_be(s: &[u8], at: usize, w: Width) -> NumberAnswer
+    ensures { λ r. ⌜ numberSays r ≡ numberAt (bytesIn w) (now (s .entry)) at ⌝ }
+    ensures { λ r. ⌜ Below (bytesIn w) r ⌝ }
+{
+    let count = width_bytes(w);
+    match crate::view::take_or(s, at, count, Reason::Incomplete) {
+        PartAnswer::Refused(r) => NumberAnswer::Refused(r),
+        PartAnswer::Got(p) => NumberAnswer::Got(Number {
+            value: number_of(s, at, count),
+            next: p.next,
+        }),
+    }
+}
+
+// Sets the `count` bytes from `at` on to those of `n`.
+fn put_number(out: &mut [u8], at: usize, count: usize, n: usize)
+    requires { ⌜ at + count ≤ length (now out) ⌝ }
+    ensures { λ _. ⌜ now (out .exit) ≡ put (now (out .entry)) at (bytesOf count n) ⌝ }
+{
+    let mut left = count;
+    let mut m = n;
+    while 0 < left {
+        left -= 1;
+        out[at + left] = (m % 256) as u8;
+        m = m / 256;
+    }
+}
+
+// Writes `n` at a place: BadLength where the width cannot hold it, then NoRoom. A refusal changes no byte.
+pub fn gen_be(out: &mut [u8], at: usize, w: Width, n: usize) -> WriteAnswer
+    ensures { λ r. ⌜ writeSays r ≡ room (numberText (bytesIn w) n) at (now (out .entry)) ⌝ }
+    ensures { λ _. ⌜ now (out .exit) ≡ written (numberText (bytesIn w) n) at (now (out .entry)) ⌝ }
+{
+    let count = width_bytes(w);
+    if limit(w) <= n {
+        return WriteAnswer::Refused(refusal::refuse(Reason::BadLength, 0, 0));
+    }
+    match crate::view::take_or(out, at, count, Reason::NoRoom) {
+        PartAnswer::Refused(r) => WriteAnswer::Refused(r),
+        PartAnswer::Got(p) => {
+            put_number(out, at, count, n);
+            WriteAnswer::Wrote(p.next)
+        }
+    }
+}

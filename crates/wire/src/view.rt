@@ -1,0 +1,60 @@
+// A part of the caller's own bytes, named by numbers.
+ghost use mathlib.Core.Path.{_≡_};
+ghost use Rattle.wire.specs.Parts.{partOf, partAt, partSays};
+use refusal::Reason;
+use refusal::Refusal;
+
+// `len` bytes from `start` on.
+pub struct View {
+    pub start: usize,
+    pub len: usize,
+}
+
+// A part that may be missing.
+pub enum OptView {
+    Absent,
+    Present(View),
+}
+
+// A part that was found, and the place past it.
+pub struct Part {
+    pub view: View,
+    pub next: usize,
+}
+
+pub enum PartAnswer {
+    Refused(Refusal),
+    Got(Part),
+}
+
+// The part of `body` that `v` names, or the empty part where `v` lies outside.
+pub fn part_of(body: &[u8], v: View) -> &[u8]
+    ensures { λ r. ⌜ now r ≡ partOf (now (body .entry)) v ⌝ }
+{
+    let start = v.start;
+    let len = v.len;
+    if body.len() < start {
+        return &body[..0];
+    }
+    if body.len() - start < len {
+        return &body[..0];
+    }
+    &body[start..start + len]
+}
+
+// The `n` bytes from `at` on, or the refusal `past` where they run past the end.
+pub fn take_or(s: &[u8], at: usize, n: usize, past: Reason) -> PartAnswer
+    ensures { λ r. ⌜ partSays r ≡ partAt past (now (s .entry)) at n ⌝ }
+{
+    if s.len() < at {
+        return PartAnswer::Refused(refusal::refuse(past, at, n));
+    }
+    let left = s.len() - at;
+    if left < n {
+        return PartAnswer::Refused(refusal::refuse(past, at, n - left));
+    }
+    PartAnswer::Got(Part {
+        view: View { start: at, len: n },
+        next: at + n,
+    })
+}
