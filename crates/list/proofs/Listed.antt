@@ -15,9 +15,9 @@ use Rattle.field.specs.Fields.{Field, step}
 use Rattle.field.proofs.Rules.{least, step-in}
 use Rattle.field.specs.Standing.{fieldBytes, NoneAt}
 use Rattle.field.proofs.Steps.{step-of, left-of, past-in, view-of, step-back, Found}
-use Rattle.list.specs.Items.{items}
+use Rattle.list.specs.Items.{items, itemFrom, place}
 use Rattle.list.specs.Listing.{EachObeys, joinItems, Holds, standing, bytesHanded, ByItems}
-use Rattle.list.proofs.Walk.{rest, rest-on, rest-end, rest-all}
+use Rattle.list.proofs.Walk.{rest, rest-on, rest-end, rest-all, first, go-on, place-below, place-past}
 
 module _ (f : Field) (one : 1 ≤ least f) (s : List ℕ) (b : Bytes s) where
   -- no item is found where none stands
@@ -95,5 +95,11 @@ module _ (f : Field) (one : 1 ≤ least f) (s : List ℕ) (b : Bytes s) where
       let d : joinItems f xs ++ r ≡ joinItems f xs ++ t = sym (x .whole) ∙ y .whole ∙ rw e in
       (e, sym (drop-at (joinItems f xs) r _ refl) ∙ ap (drop (length (joinItems f xs))) d ∙ drop-at (joinItems f xs) t _ refl)
 
+  begins : place 0 (items f s) ≡ itemFrom f s 0
+  begins = rw (rest-all f s) (first f one s 0)
+
+  goes-on : (n : ℕ) (p : Part) → place n (items f s) ≡ accepted p → place (suc n) (items f s) ≡ itemFrom f s (p .next)
+  goes-on n p e = rw (rest-all f s) (go-on f one s n 0 (rw (rest-all f s) at e))
+
 pub by-items : (f : Field) → 1 ≤ least f → (s : List ℕ) → Bytes s → ByItems f s
-by-items f one s b = record { holds = holds f one s b; hands = hands f one s b; only = only f one s b }
+by-items f one s b = record { holds = holds f one s b; hands = hands f one s b; only = only f one s b; below = λ n. place-below n (items f s); past = λ n. place-past n (items f s); begins = begins f one s b; goesOn = goes-on f one s b }

@@ -106,3 +106,15 @@ next f one s at n k h e =
 pub past : (f : Field) → 1 ≤ least f → (s : List ℕ) (at n : ℕ) {r : Refusal} → step f s at ≡ refused r → place n (rest f s at) ≡ refused (refusal NoSuch 0 0)
 unfolding place
 past f one s at n e = rw (rest-end f one s at e)
+
+-- behind an item stands the one that begins at its next place
+pub go-on : (f : Field) → 1 ≤ least f → (s : List ℕ) (n at : ℕ) {p : Part} → place n (rest f s at) ≡ accepted p → place (suc n) (rest f s at) ≡ itemFrom f s (p .next)
+unfolding place
+go-on f one s zero at e =
+    let q = item-got f s at (sym (first f one s at) ∙ e) in
+    rw (rest-on f one s at q) (first f one s _)
+go-on f one s (suc n) at {p} e = go (λ m x. go-on f one s n m x) (step f s at) refl
+  where
+    go : ((m : ℕ) → place n (rest f s m) ≡ accepted p → place (suc n) (rest f s m) ≡ itemFrom f s (p .next)) → (a : Answer Part) → step f s at ≡ a → place (suc (suc n)) (rest f s at) ≡ itemFrom f s (p .next)
+    go ih (accepted q) x = rw (rest-on f one s at x) (ih (q .next) (rw (rest-on f one s at x) at e))
+    go ih (refused r) x = absurd (not-both e (past f one s at (suc n) x))

@@ -1,14 +1,18 @@
 -- What the bytes of a list are, with no reader in it: the items joined in order with their lengths, then a remainder at whose front no item
--- stands. And what is shown of the items handed out: proved of every element and every list of bytes by `proofs/Listed.antt`.
-use Prim.Native.Nat.{ℕ, _+_}
+-- stands. And what is shown of the items handed out: proved of every element of at least a byte and every list of bytes by
+-- `proofs/Listed.antt`.
+use Prim.Native.Nat.{ℕ, suc, _+_, _<_, _≤_}
 use mathlib.Core.Path.{_≡_}
 use mathlib.Core.List.{List, [], _∷_, _++_, map}
 use lib.ListN.{length}
+use Rattle.refusal.specs.Answers.{accepted, refused}
+use Rattle.refusal.specs.Refusals.{refusal}
+use Rattle.refusal.specs.declared.Reason.the-variants.{NoSuch}
 use Rattle.wire.specs.Parts.{partOf}
 use Rattle.wire.specs.declared.view.Part.{Part}
 use Rattle.field.specs.Fields.{Field}
 use Rattle.field.specs.Standing.{fieldBytes, Obeys, NoneAt, viewOf}
-use Rattle.list.specs.Items.{items}
+use Rattle.list.specs.Items.{items, itemFrom, place}
 
 abbrev pub EachObeys : Field → List (List ℕ) → Type 0
 EachObeys f [] = Unit
@@ -41,3 +45,9 @@ pub record ByItems (f : Field) (s : List ℕ) : Type 0 where
   pub hands : (xs : List (List ℕ)) (remainder : List ℕ) → Holds f s xs remainder → items f s ≡ standing f 0 xs
   -- a list holds its items in one way
   pub only : (xs ys : List (List ℕ)) (r t : List ℕ) → Holds f s xs r → Holds f s ys t → (xs ≡ ys) × (r ≡ t)
+  -- there is an item at a place below the count, and at or past the count it is NoSuch
+  pub below : (n : ℕ) → n < length (items f s) → (p : Part) × (place n (items f s) ≡ accepted p)
+  pub past : (n : ℕ) → length (items f s) ≤ n → place n (items f s) ≡ refused (refusal NoSuch 0 0)
+  -- a walk from the front, each time from the place handed out, meets every item in order and then NoSuch
+  pub begins : place 0 (items f s) ≡ itemFrom f s 0
+  pub goesOn : (n : ℕ) (p : Part) → place n (items f s) ≡ accepted p → place (suc n) (items f s) ≡ itemFrom f s (p .next)

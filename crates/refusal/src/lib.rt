@@ -23,7 +23,7 @@ pub struct Refusal {
     pub reason: Reason,
 }
 
-// The refusal of an item that begins at `at` and lacks `lack` bytes. Both are told here and kept nowhere yet.
+// The refusal of an item that begins at `at` and lacks `lack` bytes: a refusal carries its reason alone, so both are dropped here.
 pub fn refuse(reason: Reason, at: usize, lack: usize) -> Refusal
     ensures { λ r. ⌜ r ≡ refusal reason at lack ⌝ }
 {
