@@ -1,7 +1,9 @@
 -- The grammars of the three hellos: document 01, "The grammar of the three hellos"; RFC 5246 7.4.1.2 (ClientHello), 7.4.1.3 (ServerHello),
--- 7.4.1.4 (extensions).
+-- 7.4.1.4 (extensions). The draft 18 hello is draft-ietf-tls-tls13-18's, 4.1.3.
 use mathlib.Core.List.{[], _∷_}
-use mathlib.Core.Option.{Option, some}
+use mathlib.Core.Bool.{Bool}
+use mathlib.Core.Option.{none, some}
+use Rattle.wire.specs.Parts.{pick}
 use Rattle.field.specs.Fields.{Field, fixed, counted, ruleOf}
 use Rattle.field.specs.declared.Kind.the-variants.{Plain, SessionId, Ciphers, Methods}
 use Rattle.grammar.specs.Grammars.{Grammar}
@@ -37,9 +39,9 @@ extensions = counted 2 (ruleOf Plain)
 abbrev pub clientHello : Grammar
 clientHello = record { fields = version ∷ random ∷ sessionId ∷ ciphers ∷ methods ∷ []; block = some extensions }
 
--- at 0x0301 to 0x0303 with extensions; at 0x0300 they are never looked for
-abbrev pub serverHello : Option Field → Grammar
-serverHello ext = record { fields = version ∷ random ∷ sessionId ∷ cipher ∷ compression ∷ []; block = ext }
+-- at 0x0301 to 0x0303 with extensions; at 0x0300 they are never looked for: the Rust's HAS_EXT
+abbrev pub serverHello : Bool → Grammar
+serverHello hasExt = record { fields = version ∷ random ∷ sessionId ∷ cipher ∷ compression ∷ []; block = pick hasExt (some extensions) none }
 
 abbrev pub serverHelloDraft18 : Grammar
 serverHelloDraft18 = record { fields = version ∷ random ∷ cipher ∷ []; block = some extensions }

@@ -6,7 +6,7 @@ use mathlib.Core.List.{List, [], _∷_}
 use native.Mathlib.Omega.{arith}
 use lib.ListN.{getD}
 use Rattle.refusal.specs.Refusals.{numberOf}
-use Rattle.refusal.specs.Answers.{Answer, accepted, refused, numberIn, valuesIn}
+use Rattle.refusal.specs.Answers.{Answer, accepted, refused, TellSame}
 use Rattle.refusal.specs.declared.Reason.{Reason}
 use Rattle.refusal.specs.declared.Reason.the-variants.{Incomplete, Complete, Verify, LengthValue, Tag, Switch, TooLarge, BadLength, NoRoom, Elsewhere, NoSuch, NotYetImplemented}
 use Rattle.refusal.specs.declared.Refusal.{Refusal}
@@ -31,7 +31,7 @@ row-of NoSuch = refl
 row-of NotYetImplemented = refl
 
 -- a number of the table is that of one reason
-pub one-reason : (r r′ : Reason) → numberOf r ≡ numberOf r′ → r ≡ r′
+one-reason : (r r′ : Reason) → numberOf r ≡ numberOf r′ → r ≡ r′
 one-reason r r′ e = sym (row-of r) ∙ ap (λ (n : ℕ). getD rows n Incomplete) e ∙ row-of r′
 
 one-refusal : (r r′ : Refusal) → r .reason ≡ r′ .reason → r ≡ r′
@@ -52,17 +52,16 @@ not-zero Elsewhere e = omega (arith, e)
 not-zero NoSuch e = omega (arith, e)
 not-zero NotYetImplemented e = omega (arith, e)
 
-pub told : {A : Type 0} (x y : Answer A) → numberIn x ≡ numberIn y → valuesIn x ≡ valuesIn y → x ≡ y
-told (accepted a) (accepted b) n v = cc
-told (accepted a) (refused r) n v = absurd (not-zero (r .reason) n)
-told (refused r) (accepted b) n v = absurd (not-zero (r .reason) (sym n))
-told (refused r) (refused r′) n v = ap refused (one-refusal r r′ (one-reason (r .reason) (r′ .reason) n))
+pub told : {A : Type 0} (x y : Answer A) → TellSame x y → x ≡ y
+told (accepted a) (accepted b) (n, v) = cc
+told (accepted a) (refused r) (n, v) = absurd (not-zero (r .reason) n)
+told (refused r) (accepted b) (n, v) = absurd (not-zero (r .reason) (sym n))
+told (refused r) (refused r′) (n, v) = ap refused (one-refusal r r′ (one-reason (r .reason) (r′ .reason) n))
 
 -- what a function ensures of its answer, where the answer was found to be one case
 pub case : {A B : Type 0} (says : B → Answer A) {o x : B} {a : Answer A} → says o ≡ a → o ≡ x → a ≡ says x
 case says e g = sym e ∙ ap says g
 
 -- an enum with a way back from what it says loses nothing either
-pub tells-all : {A B : Type 0} (says : B → Answer A) (back : Answer A → B) → ((b : B) → back (says b) ≡ b)
-    → (x y : B) → numberIn (says x) ≡ numberIn (says y) → valuesIn (says x) ≡ valuesIn (says y) → x ≡ y
-tells-all says back home x y n v = sym (home x) ∙ ap back (told (says x) (says y) n v) ∙ home y
+pub tells-all : {A B : Type 0} (says : B → Answer A) (back : Answer A → B) → ((b : B) → back (says b) ≡ b) → (x y : B) → TellSame (says x) (says y) → x ≡ y
+tells-all says back home x y e = sym (home x) ∙ ap back (told (says x) (says y) e) ∙ home y

@@ -1,6 +1,7 @@
 -- Demand 1: a call ends with a value or one refusal. Each answer of the code that is an enum has its `Says`, by cases, into this: the paper's
 -- number and the values. That `Says` loses nothing is shown in `proofs/Told.antt`.
 use Prim.Native.Nat.{ℕ}
+use mathlib.Core.Path.{_≡_}
 use mathlib.Core.Option.{Option, none, some}
 use Rattle.refusal.specs.Refusals.{numberOf}
 use Rattle.refusal.specs.declared.Refusal.{Refusal}
@@ -18,6 +19,10 @@ numberIn (refused r) = numberOf (r .reason)
 abbrev pub valuesIn : {A : Type 0} → Answer A → Option A
 valuesIn (accepted a) = some a
 valuesIn (refused r) = none
+
+-- two answers tell the same: equal numbers and equal values
+abbrev pub TellSame : {A : Type 0} → Answer A → Answer A → Type 0
+TellSame x y = (numberIn x ≡ numberIn y) × (valuesIn x ≡ valuesIn y)
 
 -- go on with the value, or hand on the refusal: the Rust's `?`
 abbrev pub then : {A B : Type 0} → Answer A → (A → Answer B) → Answer B

@@ -1,5 +1,5 @@
-// Shows where the fields of a ClientHello lie: one record from standard input, read by the wire layer, or the field that cannot be had
-// and the refusal's name.
+// Shows where the fields of a ClientHello lie: the first message of one record from standard input, read by the wire layer, or the field
+// that cannot be had and the refusal's name. What lies behind the record and the message is told and not read.
 use libc::STDIN_FILENO;
 use libc::STDOUT_FILENO;
 use norrabist::Kind;
@@ -91,16 +91,16 @@ fn say_ciphers(list: &[u8]) {
     say(b"\n");
 }
 
-// Where the tail begins, and how long it is: an absent block with a tail is a block that may have been cut off.
-fn say_tail(body: &[u8], at: usize) {
-    if body.len() < at {
+// The bytes from a place on, under a name.
+fn say_rest(name: &[u8], s: &[u8], at: usize) {
+    if s.len() < at {
         return;
     }
     say_view(
-        b"tail",
+        name,
         View {
             start: at,
-            len: body.len() - at,
+            len: s.len() - at,
         },
     );
 }
@@ -139,27 +139,53 @@ fn show_hello(body: &[u8]) {
         OptView::Absent => say(b"  extensions absent\n"),
         OptView::Present(v) => say_view(b"extensions", v),
     }
-    say_tail(body, ext.next);
+    // an absent block before a tail may be one that was cut off
+    say_rest(b"tail", body, ext.next);
 }
 
-// A record (type 1, version 2, length 2) round a message (type 1, length 3) round the hello.
+// Whether the byte at the front is `kind`; a refusal is told.
+fn begins_with(s: &[u8], kind: usize) -> bool {
+    match norrabist::parse_be(s, 0, Width::One) {
+        NumberAnswer::Refused(r) => {
+            say_refused(b"type", r);
+            false
+        }
+        NumberAnswer::Got(n) => n.value == kind,
+    }
+}
+
+// The first message of a record, type 1 and length 3, and the ClientHello in it.
+fn show_message(messages: &[u8]) {
+    say(b"message\n");
+    if begins_with(messages, 1) {
+        let PartAnswer::Got(body) = told(
+            b"body",
+            norrabist::length_data(messages, 1, Width::Three, Kind::Plain),
+        ) else {
+            return;
+        };
+        say_rest(b"not read", messages, body.next);
+        show_hello(norrabist::part_of(messages, body.view));
+    } else {
+        say(b"  not a ClientHello\n");
+    }
+}
+
+// A record: type 1, version 2, length 2, messages.
 fn show(record: &[u8]) {
     say(b"record\n");
-    let PartAnswer::Got(message) = told(
-        b"message",
-        norrabist::length_data(record, 3, Width::Two, Kind::Plain),
-    ) else {
-        return;
-    };
-    let inner = norrabist::part_of(record, message.view);
-    say(b"message\n");
-    let PartAnswer::Got(body) = told(
-        b"body",
-        norrabist::length_data(inner, 1, Width::Three, Kind::Plain),
-    ) else {
-        return;
-    };
-    show_hello(norrabist::part_of(inner, body.view));
+    if begins_with(record, 22) {
+        let PartAnswer::Got(messages) = told(
+            b"messages",
+            norrabist::length_data(record, 3, Width::Two, Kind::Plain),
+        ) else {
+            return;
+        };
+        say_rest(b"not read", record, messages.next);
+        show_message(norrabist::part_of(record, messages.view));
+    } else {
+        say(b"  not a handshake record\n");
+    }
 }
 
 fn main() {

@@ -8,7 +8,7 @@ use native.Mathlib.Numerals.{add-one}
 use native.Mathlib.Nat.{pow-suc, zero-add, div-add-mod', pow-le-pow-right}
 use lib.ListN.{length, getD, take, drop, length-append}
 use lib.Seq.{getD-drop, getD-at, take-suc}
-use Rattle.refusal.specs.Answers.{Answer, accepted, refused, numberIn, valuesIn}
+use Rattle.refusal.specs.Answers.{Answer, accepted, refused, TellSame}
 use Rattle.refusal.proofs.Told.{tells-all}
 use Rattle.refusal.proofs.Then.{not-both, then-accepted, then-refused}
 use Rattle.refusal.specs.declared.Reason.the-variants.{Incomplete}
@@ -113,5 +113,5 @@ number-home : (a : NumberAnswer) → number-back (numberSays a) ≡ a
 number-home (Refused r) = refl
 number-home (Got a) = refl
 
-pub one-number : (x y : NumberAnswer) → numberIn (numberSays x) ≡ numberIn (numberSays y) → valuesIn (numberSays x) ≡ valuesIn (numberSays y) → x ≡ y
+pub one-number : (x y : NumberAnswer) → TellSame (numberSays x) (numberSays y) → x ≡ y
 one-number = tells-all numberSays number-back number-home

@@ -7,7 +7,7 @@ use native.Mathlib.Nat.{add-zero}
 use borrow.Author.Tests.{le-leb, lt-leb, le-ltb, lt-ltb}
 use lib.ListN.{length, take, drop, set, length-append, length-drop, length-set, take-append-drop}
 use lib.Seq.{drop-at, length-take-le, drop-cons, take-set-le, drop-set-lt, getD-set-same}
-use Rattle.refusal.specs.Answers.{Answer, accepted, refused, numberIn, valuesIn}
+use Rattle.refusal.specs.Answers.{Answer, accepted, refused, TellSame}
 use Rattle.refusal.proofs.Told.{tells-all}
 use Rattle.refusal.specs.Refusals.{refusal}
 use Rattle.refusal.specs.declared.Reason.the-variants.{Incomplete, NoRoom, BadLength}
@@ -95,5 +95,5 @@ write-home : (a : WriteAnswer) → write-back (writeSays a) ≡ a
 write-home (Refused r) = refl
 write-home (Wrote a) = refl
 
-pub one-write : (x y : WriteAnswer) → numberIn (writeSays x) ≡ numberIn (writeSays y) → valuesIn (writeSays x) ≡ valuesIn (writeSays y) → x ≡ y
+pub one-write : (x y : WriteAnswer) → TellSame (writeSays x) (writeSays y) → x ≡ y
 one-write = tells-all writeSays write-back write-home
