@@ -1,2 +1,4 @@
 pub mod Whole
+pub mod Forms
+pub mod Versions
 pub mod Chain

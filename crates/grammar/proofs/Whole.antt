@@ -1,4 +1,4 @@
--- The grammar theorem, over every grammar and every body of bytes. Assumes nothing.
+-- Reading by a grammar, over every grammar and every body of bytes: what `Forms.antt` hands on to every form. Assumes nothing.
 use Prim.Native.Nat.{ℕ, _+_, _≤_}
 use mathlib.Core.Path.{_≡_, refl, ap, ap₂, sym, _∙_}
 use mathlib.Core.Logic.{_⊎_, inl, inr}
@@ -20,7 +20,7 @@ use Rattle.field.specs.Fields.{Field, fixed, counted, step}
 use Rattle.field.specs.Standing.{fieldBytes, placeOf}
 use Rattle.grammar.specs.Grammars.{Grammar, Each, Handed}
 use Rattle.grammar.specs.Reading.{fieldsAt, ifFits, blockAt, lastAt, withLast, read}
-use Rattle.grammar.specs.Demand3.{AllObey, join, Pieces, blockBytes, BlockObeys, Split, viewsOf, blockView, handedOf, partsOf, blockOf, piecesOf, InOrder, FirstLacks, BySplit}
+use Rattle.grammar.specs.Splits.{AllObey, join, Pieces, blockBytes, BlockObeys, Split, viewsOf, blockView, handedOf, partsOf, blockOf, piecesOf, FirstLacks}
 use Rattle.grammar.specs.declared.OptPart.{OptPart}
 use Rattle.field.proofs.Steps.{length-counted, step-of, left-of, past-in, view-of, Found, step-back, step-lacks, lacks-back}
 
@@ -75,7 +75,7 @@ module _ (g : Grammar) (s : List ℕ) (b : Bytes s) where
       let z : 0 + length (join (g .fields) (x .parts)) ≡ length (join (g .fields) (x .parts)) = zero-add _ in
       last-of (g .block) s _ (x .block) (x .tail) b (rw z at (i .inside)) (y .last) (rw z at (i .behind))
 
-  accepts : (x : Pieces g) → Split g s x → read g s ≡ accepted (handedOf g x)
+  pub accepts : (x : Pieces g) → Split g s x → read g s ≡ accepted (handedOf g x)
   unfolding read
   accepts x y = rw (stands x y .found, zero-add, lasts x y .found)
 
@@ -85,7 +85,7 @@ module _ (g : Grammar) (s : List ℕ) (b : Bytes s) where
       let l = lasts x y in
       rw (i .parts, l .block, l .behind)
 
-  only : (x y : Pieces g) → Split g s x → Split g s y → x ≡ y
+  pub only : (x y : Pieces g) → Split g s x → Split g s y → x ≡ y
   only x y p q =
       let e : accepted (handedOf g x) ≡ accepted (handedOf g y) = sym (accepts x p) ∙ accepts y q in
       let d : handedOf g x ≡ handedOf g y = cc in
@@ -172,6 +172,12 @@ lacks-of (f ∷ fs) s at r b h e = go (λ p i x. lacks-of fs s p r b i x) (then-
     go ih (inl x) = inl (lacks-back f s at r b h x)
     go ih (inr (p, x, y)) = on ih p (step-back f s at b x) (then-refused (fieldsAt fs s (p .next)) (added f fs (p .view)) y)
 
+-- the views of fields and of the block lie in field order, without overlap, from a place on and before the tail
+abbrev pub InOrder : (fs : List Field) → Each View fs → OptView → ℕ → ℕ → Type 0
+InOrder [] vs Absent from tail = from ≤ tail
+InOrder [] vs (Present v) from tail = (from ≤ v .start) × (v .start + v .len ≤ tail)
+InOrder (f ∷ fs) (v, vs) e from tail = (from ≤ v .start) × InOrder fs vs e (v .start + v .len) tail
+
 -- views lie in order where the places of fields do
 later : (vs : Unit) (e : OptView) (from at tail : ℕ) → from ≤ at → InOrder [] vs e at tail → InOrder [] vs e from tail
 later vs Absent from at tail h o = omega arith
@@ -195,7 +201,7 @@ last-ordered (some f) at none = omega arith
 last-ordered (some f) at (some p) = let n = ends f at p in (omega (arith, n .0), omega (arith, n .1))
 
 module _ (g : Grammar) (s : List ℕ) (b : Bytes s) where
-  splits : (h : Handed g) → read g s ≡ accepted h → Split g s (piecesOf g s h)
+  pub splits : (h : Handed g) → read g s ≡ accepted h → Split g s (piecesOf g s h)
   unfolding read
   splits h e =
       let t = then-accepted (fieldsAt (g .fields) s 0) (λ q. accepted (withLast g (q .0) (lastAt (g .block) s (q .1)))) e in
@@ -207,7 +213,7 @@ module _ (g : Grammar) (s : List ℕ) (b : Bytes s) where
   handed-back : (h : Handed g) → read g s ≡ accepted h → h ≡ handedOf g (piecesOf g s h)
   handed-back h e = let d : accepted h ≡ accepted (handedOf g (piecesOf g s h)) = sym e ∙ accepts g s b (piecesOf g s h) (splits h e) in cc
 
-  order : (h : Handed g) → read g s ≡ accepted h → InOrder (g .fields) (h .views) (h .block) 0 (h .tail) × (h .tail ≤ length s)
+  pub order : (h : Handed g) → read g s ≡ accepted h → InOrder (g .fields) (h .views) (h .block) 0 (h .tail) × (h .tail ≤ length s)
   order h e =
       let x = piecesOf g s h in
       let y = splits h e in
@@ -216,11 +222,11 @@ module _ (g : Grammar) (s : List ℕ) (b : Bytes s) where
       let l : length s ≡ at + (length (blockBytes (g .block) (x .block)) + length (x .tail)) = ap length (y .whole) ∙ simp length-append in
       rw (handed-back h e) (ordered (g .fields) 0 (x .parts) _ _ 0 (omega arith) (rw zero-add o), omega arith)
 
-  refuses : (r : Refusal) → FirstLacks (g .fields) 0 s r → read g s ≡ refused r
+  pub refuses : (r : Refusal) → FirstLacks (g .fields) 0 s r → read g s ≡ refused r
   unfolding read
   refuses r y = rw (refuses-of (g .fields) s 0 r (omega arith) y)
 
-  lacks : (r : Refusal) → read g s ≡ refused r → FirstLacks (g .fields) 0 s r
+  pub lacks : (r : Refusal) → read g s ≡ refused r → FirstLacks (g .fields) 0 s r
   unfolding read
   lacks r e = go (then-refused (fieldsAt (g .fields) s 0) (λ q. accepted (withLast g (q .0) (lastAt (g .block) s (q .1)))) e)
     where
@@ -228,13 +234,9 @@ module _ (g : Grammar) (s : List ℕ) (b : Bytes s) where
       go (inl x) = lacks-of (g .fields) s 0 r b (omega arith) x
       go (inr (q, x, z)) = absurd (not-both refl z)
 
-  whichever : ((x : Pieces g) × Split g s x) ⊎ ((r : Refusal) × FirstLacks (g .fields) 0 s r)
+  pub whichever : ((x : Pieces g) × Split g s x) ⊎ ((r : Refusal) × FirstLacks (g .fields) 0 s r)
   whichever = go (either (read g s))
     where
       go : ((h : Handed g) × (read g s ≡ accepted h)) ⊎ ((r : Refusal) × (read g s ≡ refused r)) → ((x : Pieces g) × Split g s x) ⊎ ((r : Refusal) × FirstLacks (g .fields) 0 s r)
       go (inl (h, e)) = inl (piecesOf g s h, splits h e)
       go (inr (r, e)) = inr (r, lacks r e)
-
--- demand 3, its reading half
-pub by-split : (g : Grammar) (s : List ℕ) → Bytes s → BySplit g s
-by-split g s b = record { whichever = whichever g s b; accepts = accepts g s b; splits = splits g s b; only = only g s b; order = order g s b; refuses = refuses g s b; lacks = lacks g s b }

@@ -1,4 +1,7 @@
 pub mod Grammars
 pub mod Hellos
+pub mod Splits
 pub mod Reading
+pub mod Forms
+pub mod Versions
 pub mod Demand3

@@ -1,6 +1,6 @@
 -- The number of w bytes and the w bytes of a number: each undoes the other, over the width. Assumes nothing.
 use Prim.Native.Nat.{ℕ, zero, suc, _+_, _*_, _/_, _%_, _^_, _<_, _≤_}
-use mathlib.Core.Path.{_≡_, refl, ap₂, sym, _∙_}
+use mathlib.Core.Path.{_≡_, refl, ap, ap₂, sym, _∙_}
 use mathlib.Core.Logic.{_⊎_, inl, inr}
 use mathlib.Core.List.{List, _∷_, _++_, append-assoc}
 use native.Mathlib.Omega.{arith}
@@ -14,7 +14,7 @@ use Rattle.refusal.proofs.Then.{not-both, then-accepted, then-refused}
 use Rattle.refusal.specs.declared.Reason.the-variants.{Incomplete}
 use Rattle.refusal.specs.declared.Refusal.{Refusal}
 use Rattle.wire.specs.Parts.{partAt}
-use Rattle.wire.specs.Numbers.{Bytes, be, bytesIn, bytesOf, numberAt, numberSays}
+use Rattle.wire.specs.Numbers.{Bytes, Below, be, bytesIn, bytesOf, numberAt, numberSays}
 use Rattle.wire.specs.declared.view.Part.{Part}
 use Rattle.wire.specs.declared.number.Width.{Width}
 use Rattle.wire.specs.declared.number.Width.the-variants.{One, Two, Three, Four}
@@ -96,6 +96,9 @@ number-is w s at {l} e =
     let d : record { value = be w s at; next = t .0 .next } ≡ l = cc (t .2) in
     record { is = sym d ∙ rw (f .is); inside = f .inside }
 
+pub number-value : (w : ℕ) (s : List ℕ) (at : ℕ) {l : Number} → numberAt w s at ≡ accepted l → be w s at ≡ l .value
+number-value w s at e = sym (ap (λ (l : Number). l .value) (number-is w s at e .is))
+
 pub number-short : (w : ℕ) (s : List ℕ) (at : ℕ) {r : Refusal} → numberAt w s at ≡ refused r → Short Incomplete s at w r
 unfolding numberAt
 number-short w s at {r} e = go (then-refused (partAt Incomplete s at w) (λ p. accepted (record { value = be w s at; next = p .next })) e)
@@ -103,6 +106,10 @@ number-short w s at {r} e = go (then-refused (partAt Incomplete s at w) (λ p. a
     go : (partAt Incomplete s at w ≡ refused r) ⊎ ((p : Part) × (partAt Incomplete s at w ≡ accepted p) × (_≡_ {A = Answer Number} (accepted (record { value = be w s at; next = p .next })) (refused r))) → Short Incomplete s at w r
     go (inl q) = short Incomplete s at w q
     go (inr (p, q, z)) = absurd (not-both refl z)
+
+-- a number that was found is below the limit of its width
+pub below-limit : (w : ℕ) {a : NumberAnswer} {n : Number} → Below w a → a ≡ Got n → n .value < 256 ^ w
+below-limit w b g = rw g at b
 
 -- equal numbers and values mean equal answers
 abbrev number-back : Answer Number → NumberAnswer

@@ -9,6 +9,8 @@ use Rattle.refusal.specs.Answers.{Answer, accepted, refused}
 use Rattle.refusal.specs.Refusals.{refusal}
 use Rattle.refusal.specs.declared.Reason.{Reason}
 use Rattle.wire.specs.declared.view.View.{View}
+use Rattle.wire.specs.declared.view.OptView.{OptView}
+use Rattle.wire.specs.declared.view.OptView.the-variants.{Absent, Present}
 use Rattle.wire.specs.declared.view.Part.{Part}
 use Rattle.wire.specs.declared.view.PartAnswer.{PartAnswer}
 use Rattle.wire.specs.declared.view.PartAnswer.the-variants.{Refused, Got}
@@ -21,6 +23,11 @@ pick false a b = b
 -- the bytes of a view, or none where it lies outside
 abbrev pub partOf : List ℕ → View → List ℕ
 partOf s v = pick (leb (v .start + v .len) (length s)) (take (v .len) (drop (v .start) s)) []
+
+-- the bytes of a part that may be missing: a missing one has none
+abbrev pub optPartOf : List ℕ → OptView → List ℕ
+optPartOf s Absent = []
+optPartOf s (Present v) = partOf s v
 
 -- the n bytes from a place on, or the refusal: of the n bytes, those past the end are lacking
 unfoldable pub partAt : Reason → List ℕ → ℕ → ℕ → Answer Part

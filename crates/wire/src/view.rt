@@ -1,6 +1,6 @@
 // A part of the caller's own bytes, named by numbers.
 ghost use mathlib.Core.Path.{_≡_};
-ghost use Rattle.wire.specs.Parts.{partOf, partAt, partSays};
+ghost use Rattle.wire.specs.Parts.{optPartOf, partAt, partOf, partSays};
 use refusal::Reason;
 use refusal::Refusal;
 
@@ -40,6 +40,16 @@ pub fn part_of(body: &[u8], v: View) -> &[u8]
         return &body[..0];
     }
     &body[start..start + len]
+}
+
+// The part of `body` that `v` names, or the empty part where there is none.
+pub fn opt_part_of(body: &[u8], v: OptView) -> &[u8]
+    ensures { λ r. ⌜ now r ≡ optPartOf (now (body .entry)) v ⌝ }
+{
+    match v {
+        OptView::Absent => &body[..0],
+        OptView::Present(p) => part_of(body, p),
+    }
 }
 
 // The `n` bytes from `at` on, or the refusal `past` where they run past the end.

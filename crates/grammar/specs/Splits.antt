@@ -1,0 +1,88 @@
+-- What it is for a body to split by a grammar, or to lack a field of it, with no reader in it. Document 01, "How tightly the gauge is fixed":
+-- "a split is stated as fields that, joined in order with their lengths and the tail, are the body". Of one field the bytes, the parts it may
+-- have and its lack are in `field/specs/Standing.antt`.
+use Prim.Native.Nat.{ℕ, _+_}
+use mathlib.Core.Path.{_≡_}
+use mathlib.Core.Logic.{_⊎_}
+use mathlib.Core.List.{List, [], _∷_, _++_}
+use mathlib.Core.Option.{Option, none, some}
+use lib.ListN.{length, drop}
+use Rattle.refusal.specs.declared.Refusal.{Refusal}
+use Rattle.wire.specs.Parts.{partOf}
+use Rattle.wire.specs.declared.view.View.{View}
+use Rattle.wire.specs.declared.view.OptView.{OptView}
+use Rattle.wire.specs.declared.view.OptView.the-variants.{Absent, Present}
+use Rattle.field.specs.Fields.{Field}
+use Rattle.field.specs.Standing.{fieldBytes, Obeys, viewOf, NoneAt, Lacks}
+use Rattle.grammar.specs.Grammars.{Grammar, Each, Handed}
+
+-- each part is one of its field
+abbrev pub AllObey : (fs : List Field) → Each (List ℕ) fs → Type 0
+AllObey [] ps = Unit
+AllObey (f ∷ fs) (p, ps) = Obeys f p × AllObey fs ps
+
+-- the fields' bytes in order
+unfoldable pub join : (fs : List Field) → Each (List ℕ) fs → List ℕ
+join [] ps = []
+join (f ∷ fs) (p, ps) = fieldBytes f p ++ join fs ps
+
+-- the pieces of a body: a part for each field, the block or none, and the tail
+pub record Pieces (g : Grammar) : Type 0 where
+  pub parts : Each (List ℕ) (g .fields)
+  pub block : Option (List ℕ)
+  pub tail : List ℕ
+
+abbrev pub blockBytes : Option Field → Option (List ℕ) → List ℕ
+blockBytes none e = []
+blockBytes (some f) none = []
+blockBytes (some f) (some p) = fieldBytes f p
+
+-- there is a block whenever one fits, and none where the grammar has none
+abbrev pub BlockObeys : Option Field → Option (List ℕ) → List ℕ → Type 0
+BlockObeys none none tail = Unit
+BlockObeys none (some p) tail = ⊥
+BlockObeys (some f) none tail = NoneAt f tail
+BlockObeys (some f) (some p) tail = Obeys f p
+
+-- the body splits into the pieces
+pub record Split (g : Grammar) (body : List ℕ) (x : Pieces g) : Type 0 where
+  pub obey : AllObey (g .fields) (x .parts)
+  pub whole : body ≡ join (g .fields) (x .parts) ++ (blockBytes (g .block) (x .block) ++ x .tail)
+  pub last : BlockObeys (g .block) (x .block) (x .tail)
+
+-- the views of the parts of fields that begin at a place
+unfoldable pub viewsOf : (fs : List Field) → ℕ → Each (List ℕ) fs → Each View fs
+viewsOf [] at ps = tt
+viewsOf (f ∷ fs) at (p, ps) = (viewOf f at p, viewsOf fs (at + length (fieldBytes f p)) ps)
+
+abbrev pub blockView : Option Field → ℕ → Option (List ℕ) → OptView
+blockView none at e = Absent
+blockView (some f) at none = Absent
+blockView (some f) at (some p) = Present (viewOf f at p)
+
+-- the pieces as they are handed out: each where it stands in the body
+abbrev pub handedOf : (g : Grammar) → Pieces g → Handed g
+handedOf g x = record {
+  views = viewsOf (g .fields) 0 (x .parts);
+  block = blockView (g .block) (length (join (g .fields) (x .parts))) (x .block);
+  tail = length (join (g .fields) (x .parts)) + length (blockBytes (g .block) (x .block));
+}
+
+-- the bytes that were handed out
+abbrev pub partsOf : List ℕ → (fs : List Field) → Each View fs → Each (List ℕ) fs
+partsOf s [] vs = tt
+partsOf s (f ∷ fs) (v, vs) = (partOf s v, partsOf s fs vs)
+
+abbrev pub blockOf : List ℕ → OptView → Option (List ℕ)
+blockOf s Absent = none
+blockOf s (Present v) = some (partOf s v)
+
+abbrev pub piecesOf : (g : Grammar) → List ℕ → Handed g → Pieces g
+piecesOf g s h = record { parts = partsOf s (g .fields) (h .views); block = blockOf s (h .block); tail = drop (h .tail) s }
+
+-- the first field that cannot be had: those before it stand in the bytes, and it lacks
+abbrev pub FirstLacks : List Field → ℕ → List ℕ → Refusal → Type 0
+FirstLacks [] at b r = ⊥
+FirstLacks (f ∷ fs) at b r =
+    Lacks f at b r
+    ⊎ ((p : List ℕ) × (rest : List ℕ) × Obeys f p × (b ≡ fieldBytes f p ++ rest) × FirstLacks fs (at + length (fieldBytes f p)) rest r)

@@ -1,0 +1,4 @@
+pub mod Begun
+pub mod Laws
+pub mod Hellos
+pub mod Rows

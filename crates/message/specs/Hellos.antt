@@ -1,0 +1,25 @@
+-- The hellos as messages: document 01, "The grammar of the three hellos".
+use Prim.Native.Nat.{ℕ}
+use mathlib.Core.List.{List}
+use lib.Dec.{eqb}
+use Rattle.refusal.specs.Answers.{Answer, accepted, then}
+use Rattle.wire.specs.Parts.{pick}
+use Rattle.wire.specs.Numbers.{numberAt}
+use Rattle.grammar.specs.Forms.{reading}
+use Rattle.grammar.specs.Versions.{byVersion}
+use Rattle.hello.specs.Client.{client}
+use Rattle.hello.specs.Server.{serverVersions}
+use Rattle.hello.specs.Draft18.{draft18}
+use Rattle.message.specs.declared.handshake.TlsMessageHandshake.{TlsMessageHandshake}
+use Rattle.message.specs.declared.handshake.TlsMessageHandshake.the-variants.{ClientHello, ServerHello, ServerHelloV13Draft18}
+
+unfoldable pub clientMessage : List ℕ → Answer TlsMessageHandshake
+clientMessage s = then (reading client s) (λ c. accepted (ClientHello c))
+
+-- "Only `parse_tls_handshake_msg_server_hello` opens it; `parse_tls_handshake_server_hello` answers Tag"
+unfoldable pub serverMessage : List ℕ → Answer TlsMessageHandshake
+serverMessage s =
+    then (numberAt 2 s 0) (λ v.
+    pick (eqb (v .value) 0x7f12)
+    (then (reading draft18 s) (λ c. accepted (ServerHelloV13Draft18 c)))
+    (then (byVersion serverVersions s) (λ c. accepted (ServerHello c))))

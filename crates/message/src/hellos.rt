@@ -1,0 +1,44 @@
+// The bodies of hellos, opened as messages.
+ghost use mathlib.Core.Path.{_≡_};
+ghost use Rattle.message.specs.Hellos.{clientMessage, serverMessage};
+ghost use Rattle.message.specs.Messages.{messageSays};
+use crate::handshake::MessageAnswer;
+use crate::handshake::TlsMessageHandshake;
+use hello::client::ClientHelloAnswer;
+use hello::draft18::Draft18Answer;
+use hello::server::ServerHelloAnswer;
+use wire::number::NumberAnswer;
+use wire::number::Width;
+
+pub fn parse_tls_handshake_msg_client_hello(i: &[u8]) -> MessageAnswer
+    ensures { λ r. ⌜ messageSays r ≡ clientMessage (now (i .entry)) ⌝ }
+{
+    match hello::client::parse_tls_handshake_client_hello(i) {
+        ClientHelloAnswer::Refused(r) => MessageAnswer::Refused(r),
+        ClientHelloAnswer::Got(c) => MessageAnswer::Got(TlsMessageHandshake::ClientHello(c)),
+    }
+}
+
+// At 0x7f12 the draft 18 hello, which `parse_tls_handshake_server_hello` does not open.
+pub fn parse_tls_handshake_msg_server_hello(i: &[u8]) -> MessageAnswer
+    ensures { λ r. ⌜ messageSays r ≡ serverMessage (now (i .entry)) ⌝ }
+{
+    let version = match wire::number::parse_be(i, 0, Width::Two) {
+        NumberAnswer::Refused(r) => {
+            return MessageAnswer::Refused(r);
+        }
+        NumberAnswer::Got(n) => n,
+    };
+    if version.value == 0x7f12 {
+        return match hello::draft18::parse_tls_server_hello_tlsv13draft18(i) {
+            Draft18Answer::Refused(r) => MessageAnswer::Refused(r),
+            Draft18Answer::Got(c) => {
+                MessageAnswer::Got(TlsMessageHandshake::ServerHelloV13Draft18(c))
+            }
+        };
+    }
+    match hello::server::parse_tls_handshake_server_hello(i) {
+        ServerHelloAnswer::Refused(r) => MessageAnswer::Refused(r),
+        ServerHelloAnswer::Got(c) => MessageAnswer::Got(TlsMessageHandshake::ServerHello(c)),
+    }
+}

@@ -1,0 +1,3 @@
+// Handshake messages of every kind.
+pub mod handshake;
+pub mod hellos;
