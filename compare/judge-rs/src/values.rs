@@ -37,7 +37,21 @@ pub fn message(s: &mut Sheet, m: &TlsMessage) {
     }
 }
 
+/// What the trait `ClientHello` hands out: the fields again, the random behind its
+/// first four bytes, and no time, whatever the random (docs/DIFFERENCES.md).
+fn accessors(h: &TlsClientHelloContents) {
+    assert_eq!(h.version(), h.version);
+    assert_eq!(h.random(), h.random);
+    assert_eq!(h.rand_time(), 0);
+    assert_eq!(h.rand_bytes(), &h.random[4..]);
+    assert_eq!(h.session_id(), h.session_id);
+    assert_eq!(h.ciphers(), &h.ciphers);
+    assert_eq!(h.comp(), &h.comp);
+    assert_eq!(h.ext(), h.ext);
+}
+
 pub fn client_hello(s: &mut Sheet, h: &TlsClientHelloContents) {
+    accessors(h);
     s.number(h.version.0);
     s.part(h.random);
     s.optional_part(h.session_id);

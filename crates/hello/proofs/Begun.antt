@@ -13,7 +13,7 @@ use Rattle.grammar.specs.Reading.{fieldsAt}
 use Rattle.grammar.proofs.Chain.{So, both, and-all-on}
 use Rattle.hello.specs.Values.{beIn, maybeOf}
 use Rattle.hello.specs.Start.{startFields, startOf, startAt}
-use Rattle.hello.specs.declared.start.Start.{Start}
+use Rattle.hello.specs.declared.Start.{Start}
 
 -- the three fields that were found
 pub record Begun (s : List ℕ) (a : Start) : Type 0 where

@@ -1,4 +1,2 @@
 pub mod Begun
 pub mod Laws
-pub mod Hellos
-pub mod Rows

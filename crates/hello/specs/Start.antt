@@ -8,9 +8,9 @@ use Rattle.grammar.specs.Grammars.{Each}
 use Rattle.grammar.specs.Hellos.{version, random, sessionId}
 use Rattle.grammar.specs.Reading.{fieldsAt}
 use Rattle.hello.specs.Values.{beIn, maybeOf}
-use Rattle.hello.specs.declared.start.Start.{Start}
-use Rattle.hello.specs.declared.start.StartAnswer.{StartAnswer}
-use Rattle.hello.specs.declared.start.StartAnswer.the-variants.{Refused, Got}
+use Rattle.hello.specs.declared.Start.{Start}
+use Rattle.hello.specs.declared.StartAnswer.{StartAnswer}
+use Rattle.hello.specs.declared.StartAnswer.the-variants.{Refused, Got}
 
 abbrev pub startFields : List Field
 startFields = version ∷ random ∷ sessionId ∷ []

@@ -7,9 +7,9 @@ use Rattle.wire.specs.Parts.{pick}
 use Rattle.wire.specs.Numbers.{numberAt}
 use Rattle.grammar.specs.Forms.{reading}
 use Rattle.grammar.specs.Versions.{byVersion}
-use Rattle.hello.specs.Client.{client}
-use Rattle.hello.specs.Server.{serverVersions}
-use Rattle.hello.specs.Draft18.{draft18}
+use Rattle.client.specs.Client.{client}
+use Rattle.server.specs.Server.{serverVersions}
+use Rattle.server.specs.Draft18.{draft18}
 use Rattle.message.specs.declared.handshake.TlsMessageHandshake.{TlsMessageHandshake}
 use Rattle.message.specs.declared.handshake.TlsMessageHandshake.the-variants.{ClientHello, ServerHello, ServerHelloV13Draft18}
 

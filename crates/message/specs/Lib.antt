@@ -1,2 +1,3 @@
 pub mod Messages
 pub mod Hellos
+pub mod Demand3

@@ -1,8 +1,8 @@
 // A handshake message of any kind, one case for each.
-use hello::client::TlsClientHelloContents;
-use hello::draft18::TlsServerHelloV13Draft18Contents;
-use hello::server::TlsServerHelloContents;
+use client::TlsClientHelloContents;
 use refusal::Refusal;
+use server::tlsv12::TlsServerHelloContents;
+use server::tlsv13draft18::TlsServerHelloV13Draft18Contents;
 
 pub enum TlsMessageHandshake {
     ClientHello(TlsClientHelloContents),

@@ -4,16 +4,16 @@ ghost use Rattle.message.specs.Hellos.{clientMessage, serverMessage};
 ghost use Rattle.message.specs.Messages.{messageSays};
 use crate::handshake::MessageAnswer;
 use crate::handshake::TlsMessageHandshake;
-use hello::client::ClientHelloAnswer;
-use hello::draft18::Draft18Answer;
-use hello::server::ServerHelloAnswer;
+use client::ClientHelloAnswer;
+use server::tlsv12::ServerHelloAnswer;
+use server::tlsv13draft18::Draft18Answer;
 use wire::number::NumberAnswer;
 use wire::number::Width;
 
 pub fn parse_tls_handshake_msg_client_hello(i: &[u8]) -> MessageAnswer
     ensures { λ r. ⌜ messageSays r ≡ clientMessage (now (i .entry)) ⌝ }
 {
-    match hello::client::parse_tls_handshake_client_hello(i) {
+    match client::parse_tls_handshake_client_hello(i) {
         ClientHelloAnswer::Refused(r) => MessageAnswer::Refused(r),
         ClientHelloAnswer::Got(c) => MessageAnswer::Got(TlsMessageHandshake::ClientHello(c)),
     }
@@ -30,14 +30,14 @@ pub fn parse_tls_handshake_msg_server_hello(i: &[u8]) -> MessageAnswer
         NumberAnswer::Got(n) => n,
     };
     if version.value == 0x7f12 {
-        return match hello::draft18::parse_tls_server_hello_tlsv13draft18(i) {
+        return match server::tlsv13draft18::parse_tls_server_hello_tlsv13draft18(i) {
             Draft18Answer::Refused(r) => MessageAnswer::Refused(r),
             Draft18Answer::Got(c) => {
                 MessageAnswer::Got(TlsMessageHandshake::ServerHelloV13Draft18(c))
             }
         };
     }
-    match hello::server::parse_tls_handshake_server_hello(i) {
+    match server::tlsv12::parse_tls_handshake_server_hello(i) {
         ServerHelloAnswer::Refused(r) => MessageAnswer::Refused(r),
         ServerHelloAnswer::Got(c) => MessageAnswer::Got(TlsMessageHandshake::ServerHello(c)),
     }

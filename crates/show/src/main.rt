@@ -1,13 +1,18 @@
-// Shows where the fields of a ClientHello lie: the first message of one record from standard input, read by the wire layer, or the field
-// that cannot be had and the refusal's name. What lies behind the record and the message is told and not read.
+// Shows what a hello says and where its parts lie: the first message of one record from standard input, read by the hello readers, or the
+// refusal's name and number. Each place is counted from the front of what its heading names. What lies behind is told and not read.
 use libc::STDIN_FILENO;
 use libc::STDOUT_FILENO;
 use norrabist::Kind;
+use norrabist::MessageAnswer;
 use norrabist::NumberAnswer;
 use norrabist::OptView;
 use norrabist::PartAnswer;
 use norrabist::Reason;
 use norrabist::Refusal;
+use norrabist::TlsClientHelloContents;
+use norrabist::TlsMessageHandshake;
+use norrabist::TlsServerHelloContents;
+use norrabist::TlsServerHelloV13Draft18Contents;
 use norrabist::View;
 use norrabist::Width;
 
@@ -17,6 +22,23 @@ fn say(text: &[u8]) {
 
 fn say_number(n: usize) {
     io::print_decimal(STDOUT_FILENO, n as u64);
+}
+
+fn say_bytes(n: usize) {
+    say_number(n);
+    if n == 1 {
+        say(b" byte\n");
+    } else {
+        say(b" bytes\n");
+    }
+}
+
+fn say_hex(name: &[u8], n: u16, digits: usize) {
+    say(b"  ");
+    say(name);
+    say(b" ");
+    io::print_hex(STDOUT_FILENO, n as u64, digits);
+    say(b"\n");
 }
 
 // The name in document 01's table.
@@ -44,8 +66,7 @@ fn say_view(name: &[u8], v: View) {
     say(b" at ");
     say_number(v.start);
     say(b", ");
-    say_number(v.len);
-    say(b" bytes\n");
+    say_bytes(v.len);
 }
 
 fn say_refused(name: &[u8], r: Refusal) {
@@ -72,23 +93,42 @@ fn told(name: &[u8], a: PartAnswer) -> PartAnswer {
     }
 }
 
-fn say_cipher(a: NumberAnswer) {
-    if let NumberAnswer::Got(c) = a {
+// The lists of a ClientHello.
+enum List {
+    Ciphers,
+    Methods,
+}
+
+fn say_number_at(a: NumberAnswer, digits: usize) {
+    if let NumberAnswer::Got(n) = a {
         say(b" ");
-        io::print_hex(STDOUT_FILENO, c.value as u64, 4);
+        io::print_hex(STDOUT_FILENO, n.value as u64, digits);
     }
 }
 
-// The ciphers in hex, one after the other.
-fn say_ciphers(list: &[u8]) {
-    let count = norrabist::number_count(list, Width::Two);
+fn say_item(c: TlsClientHelloContents, body: &[u8], list: List, k: usize) {
+    match list {
+        List::Ciphers => say_number_at(c.cipher_at(body, k), 4),
+        List::Methods => say_number_at(c.comp_at(body, k), 2),
+    }
+}
+
+// The items in hex, one after the other.
+fn say_items(c: TlsClientHelloContents, body: &[u8], list: List, count: usize) {
     say(b"    ");
     say_number(count);
     say(b" in all:");
     for k in 0..count {
-        say_cipher(norrabist::number_at(list, Width::Two, k));
+        say_item(c, body, list, k);
     }
     say(b"\n");
+}
+
+fn say_id(id: OptView) {
+    match id {
+        OptView::Absent => say(b"  session id absent\n"),
+        OptView::Present(v) => say_view(b"session id", v),
+    }
 }
 
 // The bytes from a place on, under a name.
@@ -105,76 +145,139 @@ fn say_rest(name: &[u8], s: &[u8], at: usize) {
     );
 }
 
-// The fields of a ClientHello in order: document 01, "The grammar of the three hellos".
-fn show_hello(body: &[u8]) {
-    say(b"ClientHello\n");
-    let PartAnswer::Got(version) = told(b"version", norrabist::take(body, 0, 2)) else {
-        return;
-    };
-    let PartAnswer::Got(random) = told(b"random", norrabist::take(body, version.next, 32)) else {
-        return;
-    };
-    let PartAnswer::Got(id) = told(
-        b"session id",
-        norrabist::length_data(body, random.next, Width::One, Kind::SessionId),
-    ) else {
-        return;
-    };
-    let PartAnswer::Got(ciphers) = told(
-        b"ciphers",
-        norrabist::length_data(body, id.next, Width::Two, Kind::Ciphers),
-    ) else {
-        return;
-    };
-    say_ciphers(norrabist::part_of(body, ciphers.view));
-    let PartAnswer::Got(methods) = told(
-        b"methods",
-        norrabist::length_data(body, ciphers.next, Width::One, Kind::Methods),
-    ) else {
-        return;
-    };
-    let ext = norrabist::opt_length_data(body, methods.next, Width::Two, Kind::Plain);
-    let view = ext.view;
-    match view {
-        OptView::Absent => say(b"  extensions absent\n"),
+// A hello that ends without extensions is told from one that goes on with bytes that are no whole block.
+fn say_extensions(ext: OptView, body: &[u8], tail: usize) {
+    match ext {
         OptView::Present(v) => say_view(b"extensions", v),
+        OptView::Absent => {
+            if tail < body.len() {
+                say(b"  extensions absent, and a tail follows: a block may have been cut off\n");
+            } else {
+                say(b"  extensions absent, and nothing follows\n");
+            }
+        }
     }
-    // an absent block before a tail may be one that was cut off
-    say_rest(b"tail", body, ext.next);
+    say_rest(b"tail", body, tail);
 }
 
-// Whether the byte at the front is `kind`; a refusal is told.
-fn begins_with(s: &[u8], kind: usize) -> bool {
+fn say_client(body: &[u8], c: TlsClientHelloContents) {
+    let random = c.random;
+    let id = c.session_id;
+    let ciphers = c.ciphers;
+    let methods = c.comp;
+    let ext = c.ext;
+    say(b"ClientHello\n");
+    say_hex(b"version", c.version(), 4);
+    say_view(b"random", random);
+    say_id(id);
+    say_view(b"ciphers", ciphers);
+    say_items(c, body, List::Ciphers, c.cipher_count(body));
+    say_view(b"methods", methods);
+    say_items(c, body, List::Methods, c.comp_count(body));
+    say_extensions(ext, body, c.tail);
+}
+
+fn wide(b: u8) -> u16 {
+    b as u16
+}
+
+fn say_server(body: &[u8], c: TlsServerHelloContents) {
+    let random = c.random;
+    let id = c.session_id;
+    let ext = c.ext;
+    say(b"ServerHello\n");
+    say_hex(b"version", c.version, 4);
+    say_view(b"random", random);
+    say_id(id);
+    say_hex(b"cipher", c.cipher, 4);
+    say_hex(b"compression", wide(c.compression), 2);
+    if c.version == 0x0300 {
+        say(b"  extensions absent: never looked for at version 0300\n");
+        say_rest(b"tail", body, c.tail);
+    } else {
+        say_extensions(ext, body, c.tail);
+    }
+}
+
+fn say_draft18(body: &[u8], c: TlsServerHelloV13Draft18Contents) {
+    let random = c.random;
+    let ext = c.ext;
+    say(b"ServerHello of draft 18\n");
+    say_hex(b"version", c.version, 4);
+    say_view(b"random", random);
+    say_hex(b"cipher", c.cipher, 4);
+    say_extensions(ext, body, c.tail);
+}
+
+// What the reader handed out; `name` stands over a refusal.
+fn say_answer(name: &[u8], body: &[u8], a: MessageAnswer) {
+    match a {
+        MessageAnswer::Refused(r) => {
+            say(name);
+            say(b"\n");
+            say_refused(b"refused", r);
+        }
+        MessageAnswer::Got(m) => match m {
+            TlsMessageHandshake::ClientHello(c) => say_client(body, c),
+            TlsMessageHandshake::ServerHello(c) => say_server(body, c),
+            TlsMessageHandshake::ServerHelloV13Draft18(c) => say_draft18(body, c),
+        },
+    }
+}
+
+// The body of a message of the type `kind`.
+fn show_body(kind: usize, body: &[u8]) {
+    match kind {
+        1 => {
+            let a = norrabist::parse_tls_handshake_msg_client_hello(body);
+            say_answer(b"ClientHello", body, a);
+        }
+        2 => {
+            let a = norrabist::parse_tls_handshake_msg_server_hello(body);
+            say_answer(b"ServerHello", body, a);
+        }
+        _ => {
+            say(b"not a hello: type ");
+            say_number(kind);
+            say(b" is not read\n");
+        }
+    }
+}
+
+// The byte at the front; a refusal is told.
+fn type_of(s: &[u8]) -> NumberAnswer {
     match norrabist::parse_be(s, 0, Width::One) {
         NumberAnswer::Refused(r) => {
             say_refused(b"type", r);
-            false
+            NumberAnswer::Refused(r)
         }
-        NumberAnswer::Got(n) => n.value == kind,
+        NumberAnswer::Got(n) => NumberAnswer::Got(n),
     }
 }
 
-// The first message of a record, type 1 and length 3, and the ClientHello in it.
+// The first message of a record, type 1 and length 3: the body is taken before the type is looked at.
 fn show_message(messages: &[u8]) {
     say(b"message\n");
-    if begins_with(messages, 1) {
-        let PartAnswer::Got(body) = told(
-            b"body",
-            norrabist::length_data(messages, 1, Width::Three, Kind::Plain),
-        ) else {
-            return;
-        };
-        say_rest(b"not read", messages, body.next);
-        show_hello(norrabist::part_of(messages, body.view));
-    } else {
-        say(b"  not a ClientHello\n");
-    }
+    let NumberAnswer::Got(kind) = type_of(messages) else {
+        return;
+    };
+    let PartAnswer::Got(body) = told(
+        b"body",
+        norrabist::length_data(messages, kind.next, Width::Three, Kind::Plain),
+    ) else {
+        return;
+    };
+    say_rest(b"not read", messages, body.next);
+    show_body(kind.value, norrabist::part_of(messages, body.view));
 }
 
 // A record: type 1, version 2, length 2, messages.
 fn show(record: &[u8]) {
     say(b"record\n");
-    if begins_with(record, 22) {
+    let NumberAnswer::Got(kind) = type_of(record) else {
+        return;
+    };
+    if kind.value == 22 {
         let PartAnswer::Got(messages) = told(
             b"messages",
             norrabist::length_data(record, 3, Width::Two, Kind::Plain),

@@ -1,6 +1,6 @@
 -- `message::hellos::parse_tls_handshake_msg_client_hello` meets its contract: what was read, as a message. Assumes nothing.
 use Rattle.refusal.proofs.Told.{case}
-use Rattle.hello.specs.Client.{clientSays}
+use Rattle.client.specs.Client.{clientSays}
 use Rattle.message.specs.Hellos.{clientMessage}
 use borrow.Author.Needs.{needs}
 use Rattle.message.proofs.hellos.parse_tls_handshake_msg_client_hello.Statement.{statement}

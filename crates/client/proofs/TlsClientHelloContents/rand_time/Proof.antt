@@ -1,0 +1,44 @@
+-- `client::TlsClientHelloContents::rand_time` meets its contract, by those of `random` and `parse_be`. Assumes nothing.
+use native.Mathlib.Omega.{arith}
+use Rattle.refusal.proofs.Told.{case}
+use Rattle.wire.specs.Numbers.{numberSays}
+use Rattle.wire.proofs.Numbers.{below-limit}
+use Rattle.client.specs.Client.{randTime}
+use borrow.Author.Needs.{needs}
+use Rattle.client.proofs.TlsClientHelloContents.rand_time.Statement.{statement}
+use Rattle.client.proofs.TlsClientHelloContents.rand_time.Tie as tie
+
+random-requires : tie.Need-random-requires
+random-requires c κs = search needs
+
+parse-be-requires : tie.Need-parse-be-requires
+parse-be-requires c κs = search needs
+
+enum-told : tie.Need-enum-told
+enum-told c = search needs
+
+enum-known-n : tie.Need-enum-known-n
+enum-known-n c = search needs
+
+cast-result : tie.Need-cast-result
+cast-result c = omega (arith, below-limit 4 (c .before .before .before .before .parse-be .ensures .1) (c .before .before .n .given .1))
+
+returns : tie.Need-returns
+unfolding randTime
+returns c = rw (← (c .before .before .before .random .ensures), case numberSays (c .before .before .parse-be .ensures .0) (c .enum-told .given .1))
+
+returns-2 : tie.Need-returns-2
+unfolding randTime
+returns-2 c = rw (← (c .before .before .before .before .before .random .ensures), case numberSays (c .before .before .before .before .parse-be .ensures .0) (c .before .before .n .given .1))
+
+pub rand-time-spec : {M : Type 1} → statement M
+rand-time-spec =
+    tie.close
+    (tie.spec
+    random-requires
+    parse-be-requires
+    enum-told
+    enum-known-n
+    cast-result
+    returns
+    returns-2)

@@ -1,0 +1,102 @@
+-- `client::parse_tls_handshake_client_hello` meets its contract, field by field. Assumes nothing.
+use Prim.Native.Nat.{ℕ}
+use mathlib.Core.Path.{sym, _∙_}
+use mathlib.Core.List.{List, [], _∷_}
+use denote.Ref.{now}
+use Rattle.refusal.proofs.Told.{case}
+use Rattle.wire.specs.Parts.{partSays}
+use Rattle.grammar.specs.Hellos.{ciphers, methods}
+use Rattle.grammar.specs.Forms.{reading}
+use Rattle.grammar.proofs.Chain.{So, begin, and, stop, stop-all, end}
+use Rattle.hello.specs.Start.{startFields, startSays}
+use Rattle.client.specs.Client.{client}
+use Rattle.hello.proofs.Begun.{Begun, begun, not-begun, after}
+use borrow.Author.Needs.{needs}
+use Rattle.client.proofs.parse_tls_handshake_client_hello.Statement.{statement}
+use Rattle.client.proofs.parse_tls_handshake_client_hello.Tie as tie
+
+-- the bytes lent, and what the answer comes down to, once a field was found
+abbrev S1 : tie.After-s → List ℕ
+S1 c = now (c .before .before .before .before .args .i)
+
+abbrev b1 : (c : tie.After-s) → Begun (S1 c) (c .s .given .0 .0)
+b1 c = begun (S1 c) (case startSays (c .before .before .parse-start .ensures) (c .s .given .1))
+
+abbrev at1 : (c : tie.After-s) → So (reading client (S1 c)) (S1 c) (ciphers ∷ methods ∷ [])
+at1 c = after (ciphers ∷ methods ∷ []) _ (begin client (S1 c) .on) (b1 c)
+
+abbrev S2 : tie.After-p → List ℕ
+S2 c = S1 (c .before .before .before .before)
+
+abbrev at2 : (c : tie.After-p) → So (reading client (S2 c)) (S2 c) (methods ∷ [])
+at2 c = and (at1 (c .before .before .before .before)) (case partSays (c .before .before .length-data .ensures) (c .p .given .1))
+
+abbrev S3 : tie.After-p2 → List ℕ
+S3 c = S2 (c .before .before .before .before)
+
+abbrev at3 : (c : tie.After-p2) → So (reading client (S3 c)) (S3 c) []
+at3 c = and (at2 (c .before .before .before .before)) (case partSays (c .before .before .length-data2 .ensures) (c .p2 .given .1))
+
+parse-start-requires : tie.Need-parse-start-requires
+parse-start-requires c κs = search needs
+
+enum-known-r : tie.Need-enum-known-r
+enum-known-r c = search needs
+
+returns : tie.Need-returns
+returns c = sym (stop-all startFields (ciphers ∷ methods ∷ []) (begin client _) (not-begun _ (case startSays (c .before .before .before .parse-start .ensures) (c .before .r .given .1))))
+
+enum-known-s : tie.Need-enum-known-s
+enum-known-s c = search needs
+
+length-data-requires : tie.Need-length-data-requires
+length-data-requires c κs = search needs
+
+enum-known-r-2 : tie.Need-enum-known-r-2
+enum-known-r-2 c = search needs
+
+returns-2 : tie.Need-returns-2
+returns-2 c = sym (stop (at1 (c .before .before .before .before .before)) (case partSays (c .before .before .before .length-data .ensures) (c .before .r2 .given .1)))
+
+enum-known-p : tie.Need-enum-known-p
+enum-known-p c = search needs
+
+length-data-requires-2 : tie.Need-length-data-requires-2
+length-data-requires-2 c κs = search needs
+
+enum-known-r-3 : tie.Need-enum-known-r-3
+enum-known-r-3 c = search needs
+
+returns-3 : tie.Need-returns-3
+returns-3 c = sym (stop (at2 (c .before .before .before .before .before)) (case partSays (c .before .before .before .length-data2 .ensures) (c .before .r3 .given .1)))
+
+enum-known-p-2 : tie.Need-enum-known-p-2
+enum-known-p-2 c = search needs
+
+opt-length-data-requires : tie.Need-opt-length-data-requires
+opt-length-data-requires c κs = search needs
+
+returns-4 : tie.Need-returns-4
+returns-4 c =
+    let f = c .before .before .before .before .before in
+    let b = b1 (f .before .before .before .before .before .before .before .before) in
+    sym (end (at3 f) ∙ rw (b .version, b .random, b .id, c .before .before .before .opt-length-data .ensures))
+
+pub parse-tls-handshake-client-hello-spec : {M : Type 1} → statement M
+parse-tls-handshake-client-hello-spec =
+    tie.close
+    (tie.spec
+    parse-start-requires
+    enum-known-r
+    returns
+    enum-known-s
+    length-data-requires
+    enum-known-r-2
+    returns-2
+    enum-known-p
+    length-data-requires-2
+    enum-known-r-3
+    returns-3
+    enum-known-p-2
+    opt-length-data-requires
+    returns-4)

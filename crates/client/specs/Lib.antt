@@ -1,0 +1,3 @@
+pub mod Client
+pub mod Demand3
+pub mod Readings

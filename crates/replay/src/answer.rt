@@ -1,0 +1,202 @@
+// A recorded answer, read number by number and held against the numbers that the port gives.
+use crate::text;
+use crate::text::RepeatAnswer;
+use norrabist::NumberAnswer;
+use norrabist::OptView;
+use norrabist::Refusal;
+use norrabist::View;
+
+// How an answer compares: up to here the same, or how it first differs.
+pub enum Outcome {
+    Same,
+    // another number is recorded
+    Other,
+    // a number is given where none is recorded
+    Unrecorded,
+    // a number is recorded where none is given
+    Ungiven,
+    // a number is recorded where an item of a list is refused
+    RefusedItem,
+}
+
+pub struct Cursor {
+    // where in the line the next word begins
+    pub at: usize,
+    // the number of the word before it, and how often it is still to come
+    pub value: u64,
+    pub left: u64,
+    // how many numbers were read
+    pub count: u64,
+    pub outcome: Outcome,
+    // the two numbers of a difference
+    pub recorded: u64,
+    pub given: u64,
+}
+
+// What is read next: nothing, or a number. Either way it counts as read.
+enum Read {
+    End(Cursor),
+    Number(Cursor),
+}
+
+pub fn start(at: usize) -> Cursor {
+    Cursor {
+        at,
+        value: 0,
+        left: 0,
+        count: 0,
+        outcome: Outcome::Same,
+        recorded: 0,
+        given: 0,
+    }
+}
+
+// One more, as far as that can be counted.
+pub fn up(n: u64) -> u64 {
+    if n == 0xffff_ffff_ffff_ffff {
+        return n;
+    }
+    n + 1
+}
+
+pub fn agrees(c: Cursor) -> bool {
+    let outcome = c.outcome;
+    match outcome {
+        Outcome::Same => true,
+        _ => false,
+    }
+}
+
+// Whether the line from `from` on is an answer: one or more words, a space between each two.
+pub fn is_answer(line: &[u8], from: usize) -> bool {
+    let mut at = from;
+    while at < line.len() {
+        let end = text::place(line, at, b' ');
+        let RepeatAnswer::Got(r) = text::repeat_of(text::part(line, at, end)) else {
+            return false;
+        };
+        if line.len() <= end {
+            return true;
+        }
+        if end < at {
+            return false;
+        }
+        at = end + 1;
+    }
+    false
+}
+
+// The place behind the space at `end`, or the line's end.
+fn behind(line: &[u8], end: usize) -> usize {
+    if end < line.len() {
+        return end + 1;
+    }
+    line.len()
+}
+
+// The next recorded number: the cursor that has read it holds it as `value`.
+fn read_number(line: &[u8], mut c: Cursor) -> Read {
+    c.count = up(c.count);
+    if 0 < c.left {
+        c.left = c.left - 1;
+        return Read::Number(c);
+    }
+    let at = c.at;
+    if line.len() <= at {
+        return Read::End(c);
+    }
+    let end = text::place(line, at, b' ');
+    let RepeatAnswer::Got(r) = text::repeat_of(text::part(line, at, end)) else {
+        return Read::End(c);
+    };
+    if r.times == 0 {
+        return Read::End(c);
+    }
+    c.at = behind(line, end);
+    c.value = r.value;
+    c.left = r.times - 1;
+    Read::Number(c)
+}
+
+fn differs(c: Cursor, outcome: Outcome, recorded: u64, given: u64) -> Cursor {
+    Cursor {
+        at: c.at,
+        value: c.value,
+        left: c.left,
+        count: c.count,
+        outcome,
+        recorded,
+        given,
+    }
+}
+
+// The port gives `given` next. From the first difference on nothing more is compared.
+pub fn expect(line: &[u8], c: Cursor, given: u64) -> Cursor {
+    if agrees(c) {
+        return match read_number(line, c) {
+            Read::End(n) => differs(n, Outcome::Unrecorded, 0, given),
+            Read::Number(n) => {
+                if n.value == given {
+                    return n;
+                }
+                differs(n, Outcome::Other, n.value, given)
+            }
+        };
+    }
+    c
+}
+
+// The port gives nothing more.
+pub fn expect_end(line: &[u8], c: Cursor) -> Cursor {
+    if agrees(c) {
+        return match read_number(line, c) {
+            Read::End(_) => c,
+            Read::Number(n) => differs(n, Outcome::Ungiven, n.value, 0),
+        };
+    }
+    c
+}
+
+// The port refuses an item of a list.
+fn expect_refused_item(line: &[u8], c: Cursor, r: Refusal) -> Cursor {
+    let number = norrabist::refusal_number(r) as u64;
+    if agrees(c) {
+        return match read_number(line, c) {
+            Read::End(n) => differs(n, Outcome::Unrecorded, 0, number),
+            Read::Number(n) => differs(n, Outcome::RefusedItem, n.value, number),
+        };
+    }
+    c
+}
+
+pub fn number(line: &[u8], c: Cursor, n: usize) -> Cursor {
+    expect(line, c, n as u64)
+}
+
+// A refusal is its number alone.
+pub fn refusal(line: &[u8], c: Cursor, r: Refusal) -> Cursor {
+    expect(line, c, norrabist::refusal_number(r) as u64)
+}
+
+// An accepted reading begins with 0 and the place of the rest.
+pub fn accepted(line: &[u8], c: Cursor, rest: usize) -> Cursor {
+    number(line, expect(line, c, 0), rest)
+}
+
+pub fn view(line: &[u8], c: Cursor, v: View) -> Cursor {
+    number(line, number(line, c, v.start), v.len)
+}
+
+pub fn opt_view(line: &[u8], c: Cursor, v: OptView) -> Cursor {
+    match v {
+        OptView::Absent => expect(line, c, 0),
+        OptView::Present(p) => view(line, expect(line, c, 1), p),
+    }
+}
+
+pub fn item(line: &[u8], c: Cursor, a: NumberAnswer) -> Cursor {
+    match a {
+        NumberAnswer::Refused(r) => expect_refused_item(line, c, r),
+        NumberAnswer::Got(n) => number(line, c, n.value),
+    }
+}

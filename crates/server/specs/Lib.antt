@@ -1,0 +1,3 @@
+pub mod Server
+pub mod Draft18
+pub mod Demand3
