@@ -40,21 +40,21 @@ pub record Row : Type 0 where
 abbrev pub accept : List ℕ → TlsClientHelloContents → Row
 accept s c = record { input = s; number = 0; values = some c }
 
-abbrev pub refuse : List ℕ → ℕ → Row
-refuse s n = record { input = s; number = n; values = none }
+abbrev pub reject : List ℕ → ℕ → Row
+reject s n = record { input = s; number = n; values = none }
 
--- rows 1 to 6, 8 and 9, and what the paper says of row 8 with the length 0002
+-- rows 1 to 6, 8, the same with the length 0002, and 9
 unfoldable pub rows : List Row
 rows =
-    refuse [] 1
+    reject [] 1
     ∷ accept (H []) (allEmpty Absent 38)
     ∷ accept (H (0x00 ∷ [])) (allEmpty Absent 38)
     ∷ accept (H (0x00 ∷ 0x00 ∷ [])) (allEmpty (Present (record { start = 40; len = 0 })) 40)
     ∷ accept (H (0x00 ∷ 0x01 ∷ [])) (allEmpty Absent 38)
-    ∷ refuse (from0303Z (0x21 ∷ [])) 3
-    ∷ refuse (from0303Z (0x00 ∷ 0x00 ∷ 0x01 ∷ 0x00 ∷ [])) 4
-    ∷ refuse (from0303Z (0x00 ∷ 0x00 ∷ 0x02 ∷ 0x00 ∷ [])) 4
-    ∷ refuse (from0303Z (0x00 ∷ 0x00 ∷ 0x00 ∷ 0x01 ∷ [])) 4
+    ∷ reject (from0303Z (0x21 ∷ [])) 3
+    ∷ reject (from0303Z (0x00 ∷ 0x00 ∷ 0x01 ∷ 0x00 ∷ [])) 4
+    ∷ reject (from0303Z (0x00 ∷ 0x00 ∷ 0x02 ∷ 0x00 ∷ [])) 4
+    ∷ reject (from0303Z (0x00 ∷ 0x00 ∷ 0x00 ∷ 0x01 ∷ [])) 4
     ∷ []
 
 abbrev pub Reads : Row → Type 0

@@ -120,6 +120,7 @@ impl TlsClientHelloContents {
         list::numbers::number_count(wire::view::part_of(body, self.ciphers), Width::Two)
     }
 
+    // The cipher at a place, and the place past it in the list.
     pub fn cipher_at(self, body: &[u8], at: usize) -> NumberAnswer
         ensures { λ r. ⌜ numberSays r ≡ numberPlace at 2 (partOf (now (body .entry)) (self .ciphers)) ⌝ }
     {
@@ -132,6 +133,7 @@ impl TlsClientHelloContents {
         list::numbers::number_count(wire::view::part_of(body, self.comp), Width::One)
     }
 
+    // The method at a place, and the place past it in the list.
     pub fn comp_at(self, body: &[u8], at: usize) -> NumberAnswer
         ensures { λ r. ⌜ numberSays r ≡ numberPlace at 1 (partOf (now (body .entry)) (self .comp)) ⌝ }
     {

@@ -10,7 +10,7 @@ use Rattle.wire.specs.declared.view.Part.{Part}
 use Rattle.field.specs.Fields.{Field, step}
 use Rattle.grammar.specs.Grammars.{Each}
 use Rattle.grammar.specs.Reading.{fieldsAt, lastAt, withLast, read}
-use Rattle.grammar.specs.Forms.{Form, reading}
+use Rattle.grammar.specs.Forms.{Form, valueOf, reading}
 
 -- the whole comes down to the fields that are left, from the place reached on
 pub record So {X : Type 0} (whole : Answer X) (s : List ℕ) (fs : List Field) : Type 0 where
@@ -31,13 +31,13 @@ then-both : {A B C D : Type 0} (x : Answer A) (y : A → Answer B) (f : A → B 
 then-both (accepted a) y f g = then-then (y a) (f a) (λ c. accepted (g c))
 then-both (refused r) y f g = refl
 
-pub begin-on : {C : Type 0} (k : Form C) (s : List ℕ) → reading k s ≡ then (fieldsAt (k .grammar .fields) s 0) (λ q. accepted (k .value s (withLast (k .grammar) (q .0) (lastAt (k .grammar .block) s (q .1)))))
+pub begin-on : {C : Type 0} (k : Form C) (s : List ℕ) → reading k s ≡ then (fieldsAt (k .grammar .fields) s 0) (λ q. accepted (valueOf k s (withLast (k .grammar) (q .0) (lastAt (k .grammar .block) s (q .1)))))
 unfolding reading read
-begin-on k s = then-then (fieldsAt (k .grammar .fields) s 0) (λ q. withLast (k .grammar) (q .0) (lastAt (k .grammar .block) s (q .1))) (λ h. accepted (k .value s h))
+begin-on k s = then-then (fieldsAt (k .grammar .fields) s 0) (λ q. withLast (k .grammar) (q .0) (lastAt (k .grammar .block) s (q .1))) (λ h. accepted (valueOf k s h))
 
 -- a form's reading before its first field
 abbrev pub begin : {C : Type 0} (k : Form C) (s : List ℕ) → So (reading k s) s (k .grammar .fields)
-begin k s = record { n = 0; k = λ q. accepted (k .value s (withLast (k .grammar) (q .0) (lastAt (k .grammar .block) s (q .1)))); on = begin-on k s }
+begin k s = record { n = 0; k = λ q. accepted (valueOf k s (withLast (k .grammar) (q .0) (lastAt (k .grammar .block) s (q .1)))); on = begin-on k s }
 
 pub and-on : {X : Type 0} {whole : Answer X} {s : List ℕ} {f : Field} {fs : List Field} (o : So whole s (f ∷ fs)) {p : Part} → step f s (o .n) ≡ accepted p
     → whole ≡ then (fieldsAt fs s (p .next)) (λ q. o .k ((p .view, q .0), q .1))

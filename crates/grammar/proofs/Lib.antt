@@ -1,4 +1,5 @@
 pub mod Whole
+pub mod Outs
 pub mod Forms
 pub mod Versions
 pub mod Chain

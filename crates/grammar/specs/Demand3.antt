@@ -13,7 +13,7 @@ use Rattle.wire.specs.Numbers.{be}
 use Rattle.wire.specs.declared.view.View.{View}
 use Rattle.field.specs.Standing.{TooFew}
 use Rattle.grammar.specs.Splits.{Pieces, Split, handedOf, FirstLacks}
-use Rattle.grammar.specs.Forms.{Form, reading}
+use Rattle.grammar.specs.Forms.{Form, valueOf, reading, pieces, views}
 use Rattle.grammar.specs.Versions.{Listing, byVersion, Announces}
 
 -- views in a row: in order, without overlap, from a place on and before the tail
@@ -21,29 +21,28 @@ abbrev pub InRow : ℕ → List View → ℕ → Type 0
 InRow from [] tail = from ≤ tail
 InRow from (v ∷ vs) tail = (from ≤ v .start) × InRow (v .start + v .len) vs tail
 
--- the theorem, proved of every lawful form and every body of bytes by `proofs/Whole.antt`
+-- the theorem, shown of every body of bytes, and of every form whose values tell what they were made of, by `proofs/Forms.antt`
 pub record BySplit {C : Type 0} (k : Form C) (body : List ℕ) : Type 0 where
   -- every body splits, or lacks a field
   pub whichever : ((x : Pieces (k .grammar)) × Split (k .grammar) body x) ⊎ ((r : Refusal) × FirstLacks (k .grammar .fields) 0 body r)
   -- a body that splits is accepted, and each piece is handed out where it stands
-  pub accepts : (x : Pieces (k .grammar)) → Split (k .grammar) body x → reading k body ≡ accepted (k .value body (handedOf (k .grammar) x))
+  pub accepts : (x : Pieces (k .grammar)) → Split (k .grammar) body x → reading k body ≡ accepted (valueOf k body (handedOf (k .grammar) x))
   -- a body that is accepted splits, into the pieces that the value names
-  pub splits : (c : C) → reading k body ≡ accepted c → Split (k .grammar) body (k .pieces body c)
+  pub splits : (c : C) → reading k body ≡ accepted c → Split (k .grammar) body (pieces k body c)
   -- the split is the only one
   pub only : (x y : Pieces (k .grammar)) → Split (k .grammar) body x → Split (k .grammar) body y → x ≡ y
   -- the views handed out lie in field order, without overlap, before the tail, which begins in the body or at its end
-  pub order : (c : C) → reading k body ≡ accepted c → InRow 0 (k .views c) (k .tail c) × (k .tail c ≤ length body)
+  pub order : (c : C) → reading k body ≡ accepted c → InRow 0 (views k c) (k .tail c) × (k .tail c ≤ length body)
   -- a body that lacks a field is refused with the refusal set for the first
   pub refuses : (r : Refusal) → FirstLacks (k .grammar .fields) 0 body r → reading k body ≡ refused r
   -- and a body is refused only for that
   pub lacks : (r : Refusal) → reading k body ≡ refused r → FirstLacks (k .grammar .fields) 0 body r
 
--- the same where the version announces the form
+-- the same where the version announces the form, by `proofs/Versions.antt`: a body has a listed version, one that is not listed, or none
 pub record ByVersion {C : Type 0} (forms : Listing C) (body : List ℕ) : Type 0 where
   -- a body whose version is listed is read by the form announced, of which the theorem holds
   pub listed : (k : Form C) → Announces forms body k → (byVersion forms body ≡ reading k body) × BySplit k body
-  -- a body that is accepted has such a version
-  pub only : (c : C) → byVersion forms body ≡ accepted c → (k : Form C) × Announces forms body k
-  -- a body without a version is refused for it, and one whose version is not listed is refused with Tag, whatever follows
-  pub short : (r : Refusal) → TooFew Incomplete 2 0 body r → byVersion forms body ≡ refused r
+  -- one whose version is not listed is refused with Tag, whatever follows
   pub unlisted : 2 ≤ length body → forms (be 2 body 0) ≡ none → byVersion forms body ≡ refused (refusal Tag 0 0)
+  -- one without a version is refused for it
+  pub short : (r : Refusal) → TooFew Incomplete 2 0 body r → byVersion forms body ≡ refused r

@@ -1,33 +1,43 @@
--- What the answer for version, random and session id says of a reading that begins with them. Assumes nothing.
+-- What the answer for version, random and session id says of a reading that begins with them; and equal numbers and values mean equal answers.
+-- Assumes nothing.
 use Prim.Native.Nat.{ℕ}
-use mathlib.Core.Path.{_≡_, refl, ap}
+use mathlib.Core.Path.{_≡_, refl, ap, sym, _∙_}
 use mathlib.Core.Logic.{_⊎_, inl, inr}
 use mathlib.Core.List.{List, _++_}
-use Rattle.refusal.specs.Answers.{Answer, accepted, refused, then}
+use Rattle.refusal.specs.Answers.{Answer, accepted, refused, then, TellSame}
 use Rattle.refusal.specs.declared.Refusal.{Refusal}
+use Rattle.refusal.proofs.Told.{tells-all}
 use Rattle.refusal.proofs.Then.{not-both, then-accepted, then-refused}
+use Rattle.wire.specs.Numbers.{be}
 use Rattle.wire.specs.declared.view.View.{View}
 use Rattle.field.specs.Fields.{Field}
 use Rattle.grammar.specs.Grammars.{Each}
-use Rattle.grammar.specs.Reading.{fieldsAt}
-use Rattle.grammar.proofs.Chain.{So, both, and-all-on}
-use Rattle.hello.specs.Values.{beIn, maybeOf}
-use Rattle.hello.specs.Start.{startFields, startOf, startAt}
+use Rattle.grammar.specs.Reading.{fieldsAt, lastAt, withLast}
+use Rattle.grammar.specs.Forms.{absentIfEmpty, valueOf, reading}
+use Rattle.grammar.proofs.Chain.{So, both, begin-on, and-all-on}
+use Rattle.hello.specs.Start.{start, startSays}
 use Rattle.hello.specs.declared.Start.{Start}
+use Rattle.hello.specs.declared.StartAnswer.{StartAnswer}
+use Rattle.hello.specs.declared.StartAnswer.the-variants.{Refused, Got}
+
+abbrev pub startFields : List Field
+startFields = start .grammar .fields
+
+abbrev startOf : List ℕ → Each View startFields × ℕ → Start
+startOf s q = valueOf start s (withLast (start .grammar) (q .0) (lastAt (start .grammar .block) s (q .1)))
 
 -- the three fields that were found
 pub record Begun (s : List ℕ) (a : Start) : Type 0 where
   pub q : Each View startFields × ℕ
   pub found : fieldsAt startFields s 0 ≡ accepted q
-  pub version : beIn 2 s (q .0 .0) ≡ a .version
+  pub version : be 2 s (q .0 .0 .start) ≡ a .version
   pub random : q .0 .1 .0 ≡ a .random
-  pub id : maybeOf (q .0 .1 .1 .0) ≡ a .«session_id»
+  pub id : absentIfEmpty (q .0 .1 .1 .0) ≡ a .«session_id»
   pub next : q .1 ≡ a .next
 
-pub begun : (s : List ℕ) {a : Start} → startAt s ≡ accepted a → Begun s a
-unfolding startAt
+pub begun : (s : List ℕ) {a : Start} → reading start s ≡ accepted a → Begun s a
 begun s {a} e =
-    let t = then-accepted (fieldsAt startFields s 0) (λ q. accepted (startOf s q)) e in
+    let t = then-accepted (fieldsAt startFields s 0) (λ q. accepted (startOf s q)) (sym (begin-on start s) ∙ e) in
     let d : startOf s (t .0) ≡ a = cc (t .2) in
     record {
       q = t .0;
@@ -38,9 +48,8 @@ begun s {a} e =
       next = ap (λ (x : Start). x .next) d;
     }
 
-pub not-begun : (s : List ℕ) {r : Refusal} → startAt s ≡ refused r → fieldsAt startFields s 0 ≡ refused r
-unfolding startAt
-not-begun s {r} e = go (then-refused (fieldsAt startFields s 0) (λ q. accepted (startOf s q)) e)
+pub not-begun : (s : List ℕ) {r : Refusal} → reading start s ≡ refused r → fieldsAt startFields s 0 ≡ refused r
+not-begun s {r} e = go (then-refused (fieldsAt startFields s 0) (λ q. accepted (startOf s q)) (sym (begin-on start s) ∙ e))
   where
     go : (fieldsAt startFields s 0 ≡ refused r) ⊎ ((q : Each View startFields × ℕ) × (fieldsAt startFields s 0 ≡ accepted q) × (_≡_ {A = Answer Start} (accepted (startOf s q)) (refused r))) → fieldsAt startFields s 0 ≡ refused r
     go (inl x) = x
@@ -53,3 +62,14 @@ after-on gs k on b = rw (← (b .next)) (and-all-on startFields gs (record { n =
 
 abbrev pub after : {X : Type 0} {whole : Answer X} {s : List ℕ} (gs : List Field) (k : Each View (startFields ++ gs) × ℕ → Answer X) → whole ≡ then (fieldsAt (startFields ++ gs) s 0) k → {a : Start} → Begun s a → So whole s gs
 after gs k on {a} b = record { n = a .next; k = λ t. k (both startFields gs (b .q .0) (t .0), t .1); on = after-on gs k on b }
+
+abbrev back : Answer Start → StartAnswer
+back (accepted a) = Got a
+back (refused r) = Refused r
+
+home : (a : StartAnswer) → back (startSays a) ≡ a
+home (Refused r) = refl
+home (Got a) = refl
+
+pub one-start : (x y : StartAnswer) → TellSame (startSays x) (startSays y) → x ≡ y
+one-start = tells-all startSays back home

@@ -1,7 +1,7 @@
 // What a ClientHello and a ServerHello begin with: version, random and session id (RFC 5246 7.4.1.2, 7.4.1.3).
 ghost use mathlib.Core.Path.{_≡_};
-ghost use Rattle.hello.specs.Start.{startAt, startSays};
-ghost use Rattle.hello.specs.Values.{maybeOf};
+ghost use Rattle.grammar.specs.Forms.{absentIfEmpty, reading};
+ghost use Rattle.hello.specs.Start.{start, startSays};
 use field::Kind;
 use refusal::Refusal;
 use wire::number::NumberAnswer;
@@ -24,7 +24,7 @@ pub enum StartAnswer {
 
 // An id of no bytes is an absent one.
 fn non_empty(v: View) -> OptView
-    ensures { λ r. ⌜ r ≡ maybeOf v ⌝ }
+    ensures { λ r. ⌜ r ≡ absentIfEmpty v ⌝ }
 {
     if v.len == 0 {
         return OptView::Absent;
@@ -33,7 +33,7 @@ fn non_empty(v: View) -> OptView
 }
 
 pub fn parse_start(i: &[u8]) -> StartAnswer
-    ensures { λ r. ⌜ startSays r ≡ startAt (now (i .entry)) ⌝ }
+    ensures { λ r. ⌜ startSays r ≡ reading start (now (i .entry)) ⌝ }
 {
     let version = match wire::number::parse_be(i, 0, Width::Two) {
         NumberAnswer::Refused(r) => {

@@ -1,50 +1,33 @@
 -- Demand 3, its reading half, of the ServerHellos as messages. Assumes nothing.
-use Prim.Native.Nat.{ℕ, _≤_}
-use mathlib.Core.Path.{_≡_, refl, sym, _∙_}
+use Prim.Native.Nat.{ℕ}
+use mathlib.Core.Path.{_≡_, refl, _∙_}
 use mathlib.Core.Logic.{_⊎_, inl, inr}
 use mathlib.Core.Bool.{Bool, true, false}
 use mathlib.Core.List.{List}
-use mathlib.Core.Option.{Option, none, some}
 use native.Mathlib.Omega.{arith}
 use borrow.Author.Tests.{eqb-true}
-use lib.ListN.{length}
 use lib.Dec.{eqb}
-use Rattle.refusal.specs.Answers.{Answer, accepted, refused, then}
+use Rattle.refusal.specs.Answers.{accepted, refused, then}
 use Rattle.refusal.specs.Refusals.{refusal}
 use Rattle.refusal.specs.declared.Reason.the-variants.{Incomplete, Tag}
 use Rattle.refusal.specs.declared.Refusal.{Refusal}
 use Rattle.refusal.proofs.Then.{either}
-use Rattle.wire.specs.Parts.{pick}
 use Rattle.wire.specs.Numbers.{be, numberAt}
 use Rattle.wire.specs.declared.number.Number.{Number}
 use Rattle.wire.proofs.Parts.{part-in}
 use Rattle.wire.proofs.Numbers.{number-got, number-is}
-use Rattle.grammar.specs.Forms.{Form}
-use Rattle.grammar.specs.Versions.{Announces, byVersion}
+use Rattle.grammar.specs.Forms.{reading}
+use Rattle.grammar.specs.Versions.{byVersion}
 use Rattle.grammar.proofs.Versions.{decided}
 use Rattle.server.specs.Server.{serverVersions}
-use Rattle.server.specs.Draft18.{draft18, draft18Versions}
+use Rattle.server.specs.Draft18.{draft18}
 use Rattle.message.specs.Hellos.{serverMessage}
-use Rattle.message.specs.Demand3.{Demand3}
+use Rattle.message.specs.Demand3.{IsDraft18, Demand3}
 use Rattle.message.specs.declared.handshake.TlsMessageHandshake.the-variants.{ServerHello, ServerHelloV13Draft18}
 
--- the version of a draft 18 hello
-is-draft18 : (v : ℕ) → draft18Versions v ≡ some draft18 → v ≡ 0x7f12
-is-draft18 v e = go (eqb v 0x7f12) refl
-  where
-    go : (t : Bool) → eqb v 0x7f12 ≡ t → v ≡ 0x7f12
-    go true q = eqb-true v 0x7f12 q
-    go false q =
-        let f : none ≡ some draft18 = rw q at e in
-        let z : _≡_ {A = ℕ} 0 1 = cc in
-        absurd (omega arith)
-
-at-draft18 : (s : List ℕ) → Announces draft18Versions s draft18
-    → (serverMessage s ≡ then (byVersion draft18Versions s) (λ c. accepted (ServerHelloV13Draft18 c))) × (byVersion serverVersions s ≡ refused (refusal Tag 0 0))
+at-draft18 : (s : List ℕ) → IsDraft18 s → (serverMessage s ≡ then (reading draft18 s) (λ c. accepted (ServerHelloV13Draft18 c))) × (byVersion serverVersions s ≡ refused (refusal Tag 0 0))
 unfolding serverMessage
-at-draft18 s (h, e) =
-    let v : be 2 s 0 ≡ 0x7f12 = is-draft18 (be 2 s 0) e in
-    (rw (number-got 2 s 0 (part-in Incomplete s 0 2 (omega arith)), decided draft18Versions s h, v), decided serverVersions s h ∙ rw v)
+at-draft18 s (h, v) = (rw (number-got 2 s 0 (part-in Incomplete s 0 2 (omega arith)), v), decided serverVersions s h ∙ rw v)
 
 abbrev AsServer : List ℕ → Type 0
 AsServer s = serverMessage s ≡ then (byVersion serverVersions s) (λ c. accepted (ServerHello c))
@@ -53,20 +36,20 @@ without : (s : List ℕ) {r : Refusal} → numberAt 2 s 0 ≡ refused r → AsSe
 unfolding serverMessage byVersion
 without s e = rw e
 
-with-version : (s : List ℕ) {v : Number} → numberAt 2 s 0 ≡ accepted v → (Announces draft18Versions s draft18 → ⊥) → AsServer s
+with-version : (s : List ℕ) {v : Number} → numberAt 2 s 0 ≡ accepted v → (IsDraft18 s → ⊥) → AsServer s
 unfolding serverMessage
 with-version s {v} e not = go (eqb (be 2 s 0) 0x7f12) refl
   where
     go : (t : Bool) → eqb (be 2 s 0) 0x7f12 ≡ t → AsServer s
-    go true q = absurd (not (omega (arith, number-is 2 s 0 e .inside), rw q))
+    go true q = absurd (not (omega (arith, number-is 2 s 0 e .inside), eqb-true (be 2 s 0) 0x7f12 q))
     go false q = rw (e, number-is 2 s 0 e .is, q)
 
-at-others : (s : List ℕ) → (Announces draft18Versions s draft18 → ⊥) → AsServer s
+at-others : (s : List ℕ) → (IsDraft18 s → ⊥) → AsServer s
 at-others s not = go (either (numberAt 2 s 0))
   where
     go : ((v : Number) × (numberAt 2 s 0 ≡ accepted v)) ⊎ ((r : Refusal) × (numberAt 2 s 0 ≡ refused r)) → AsServer s
     go (inl (v, e)) = with-version s e not
     go (inr (r, e)) = without s e
 
-pub demand3 : (s : List ℕ) → Demand3 s
+pub demand3 : Demand3
 demand3 s = record { draft18Hello = at-draft18 s; serverHello = at-others s }

@@ -4,7 +4,7 @@ use Rattle.message.specs.declared.handshake.TlsMessageHandshake.{TlsMess
 use Rattle.message.specs.declared.handshake.MessageAnswer.{MessageAnswer}
 use Rattle.message.specs.declared.handshake.MessageAnswer.the-variants.{Refused, Got}
 
--- the paper's number and values of each case
+-- as an `Answer`, which has the paper's number and the values
 abbrev pub messageSays : MessageAnswer → Answer TlsMessageHandshake
 messageSays (Refused r) = refused r
 messageSays (Got m) = accepted m

@@ -1,4 +1,4 @@
-// A handshake message of any kind, one case for each.
+// A handshake message, one case for each kind that is opened.
 use client::TlsClientHelloContents;
 use refusal::Refusal;
 use server::tlsv12::TlsServerHelloContents;

@@ -1,3 +1,3 @@
-// Handshake messages of every kind.
+// Handshake messages: the hellos so far.
 pub mod handshake;
 pub mod hellos;

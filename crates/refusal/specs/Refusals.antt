@@ -18,6 +18,6 @@ numberOf Elsewhere = 10
 numberOf NoSuch = 11
 numberOf NotYetImplemented = 12
 
--- the refusal of an item that begins at a place and lacks so many bytes: it carries its number alone
+-- the refusal of an item that begins at a place and lacks so many bytes: it carries its number alone, so place and shortfall are dropped
 unfoldable pub refusal : Reason → ℕ → ℕ → Refusal
 refusal why at lack = record { reason = why }

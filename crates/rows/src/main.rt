@@ -237,11 +237,12 @@ fn accessor_rows() {
     let mut s = [0u8; 80];
     s[0] = 0x03;
     s[1] = 0x03;
+    s[5] = 0x01;
+    accessors(b"0303 00000001 and 32 zero bytes", &s[..38]);
     s[2] = 0x01;
     s[3] = 0x02;
     s[4] = 0x03;
     s[5] = 0x04;
-    accessors(b"0303 01020304 and 32 zero bytes", &s[..38]);
     s[34] = 0x02;
     s[41] = 0x01;
     accessors(

@@ -1,25 +1,19 @@
 -- Demand 3, its reading half, of the ServerHello and of that of draft 18, instances of the one theorem; and equal numbers and values mean
 -- equal answers. Assumes nothing.
-use Prim.Native.Nat.{ℕ, _+_}
+use Prim.Native.Nat.{ℕ}
 use mathlib.Core.Path.{_≡_, refl}
 use mathlib.Core.Bool.{Bool, true, false}
-use mathlib.Core.List.{List, [], _∷_}
 use mathlib.Core.Option.{Option, none, some}
 use native.Mathlib.Omega.{arith}
 use lib.Dec.{eqb}
 use Rattle.refusal.specs.Answers.{Answer, accepted, refused, TellSame}
 use Rattle.refusal.proofs.Told.{tells-all}
 use Rattle.wire.specs.Parts.{pick}
-use Rattle.wire.specs.Numbers.{Bytes}
-use Rattle.grammar.specs.Grammars.{Handed}
-use Rattle.grammar.specs.Splits.{Split}
 use Rattle.grammar.specs.Forms.{Form}
-use Rattle.grammar.proofs.Forms.{Lawful}
+use Rattle.grammar.proofs.Forms.{Lawful, by-split}
 use Rattle.grammar.proofs.Versions.{by-version}
-use Rattle.hello.specs.Values.{ifThere}
-use Rattle.hello.proofs.Laws.{number-part, id-part, sooner, id-row, block-row}
 use Rattle.server.specs.Server.{server, serverVersions, serverSays}
-use Rattle.server.specs.Draft18.{draft18, draft18Versions, draft18Says}
+use Rattle.server.specs.Draft18.{draft18, draft18Says}
 use Rattle.server.specs.Demand3.{Demand3}
 use Rattle.server.specs.declared.tlsv12.TlsServerHelloContents.{TlsServerHelloContents}
 use Rattle.server.specs.declared.tlsv12.ServerHelloAnswer.{ServerHelloAnswer}
@@ -27,23 +21,10 @@ use Rattle.server.specs.declared.tlsv13draft18.TlsServerHelloV13Draft18C
 use Rattle.server.specs.declared.tlsv13draft18.Draft18Answer.{Draft18Answer}
 
 server-lawful : (hasExt : Bool) → Lawful (server hasExt)
-server-lawful hasExt = record {
-  pieces = λ s h b y.
-      let v = h .views .1 .1 in
-      let o = y .obey .1 .1 .1 in
-      rw (number-part 1 s (h .views .0) b (y .obey .0), id-part s (v .0), number-part 1 s (v .1 .0) b (o .0), number-part 0 s (v .1 .1 .0) b (o .1 .0));
-  row = λ s h (_, (_, (i, (c, (m, e))))).
-      let v = h .views .1 in
-      (omega arith, id-row (v .1 .0) (ifThere (h .block) []) (v .0 .start + v .0 .len) (h .tail) i (sooner (ifThere (h .block) []) _ _ (h .tail) (omega arith) (block-row (h .block) _ (h .tail) e)));
-  tail = λ s h. refl;
-}
+server-lawful hasExt = record { suits = (refl, (tt, (tt, (refl, (refl, tt))))); handed = λ o e t. refl; block = λ o e t. refl; tail = λ o e t. refl }
 
 draft18-lawful : Lawful draft18
-draft18-lawful = record {
-  pieces = λ s h b y. rw (number-part 1 s (h .views .0) b (y .obey .0), number-part 1 s (h .views .1 .1 .0) b (y .obey .1 .1 .0));
-  row = λ s h (_, (_, (c, e))). (omega arith, sooner (ifThere (h .block) []) _ _ (h .tail) (omega arith) (block-row (h .block) _ (h .tail) e));
-  tail = λ s h. refl;
-}
+draft18-lawful = record { suits = (refl, (tt, (refl, tt))); handed = λ o e t. refl; block = λ o e t. refl; tail = λ o e t. refl }
 
 -- each form of a listing by tests is lawful where the first is, and those after it
 first : {C : Type 0} (t : Bool) {j : Form C} {o : Option (Form C)} → Lawful j → ((k : Form C) → o ≡ some k → Lawful k) → (k : Form C) → pick t (some j) o ≡ some k → Lawful k
@@ -56,10 +37,11 @@ first false l m k e = m k e
 last : {C : Type 0} (k : Form C) → _≡_ {A = Option (Form C)} none (some k) → Lawful k
 last k e = let z : _≡_ {A = ℕ} 0 1 = cc in absurd (omega arith)
 
-pub demand3 : (s : List ℕ) → Bytes s → Demand3 s
+pub demand3 : Demand3
 demand3 s b = record {
-  serverHello = by-version serverVersions (λ v. first (eqb v 0x0303) (server-lawful true) (first (eqb v 0x0302) (server-lawful true) (first (eqb v 0x0301) (server-lawful true) (first (eqb v 0x0300) (server-lawful false) last)))) s b;
-  draft18Hello = by-version draft18Versions (λ v. first (eqb v 0x7f12) draft18-lawful last) s b;
+  serverHello = λ hasExt. by-split (server hasExt) (server-lawful hasExt) s b;
+  draft18Hello = by-split draft18 draft18-lawful s b;
+  byItsVersion = by-version serverVersions (λ v. first (eqb v 0x0303) (server-lawful true) (first (eqb v 0x0302) (server-lawful true) (first (eqb v 0x0301) (server-lawful true) (first (eqb v 0x0300) (server-lawful false) last)))) s b;
 }
 
 abbrev server-back : Answer TlsServerHelloContents → ServerHelloAnswer

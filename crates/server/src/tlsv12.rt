@@ -43,7 +43,7 @@ fn extensions(i: &[u8], at: usize, has_ext: bool) -> OptPart
     }
 }
 
-// The body by its grammar, whatever the version; `has_ext` is the Rust's HAS_EXT.
+// The body by its grammar, whatever the version.
 pub fn parse_tls_server_hello_tlsv12(i: &[u8], has_ext: bool) -> ServerHelloAnswer
     ensures { λ r. ⌜ serverSays r ≡ reading (server «has_ext») (now (i .entry)) ⌝ }
 {
@@ -100,7 +100,7 @@ pub fn parse_tls_handshake_server_hello(i: &[u8]) -> ServerHelloAnswer
     }
 }
 
-// As those of the ClientHello.
+// Each accessor takes the bytes that the hello was read from; an absent part is the empty one.
 impl TlsServerHelloContents {
     pub fn random(self, body: &[u8]) -> &[u8]
         ensures { λ r. ⌜ now r ≡ partOf (now (body .entry)) (self .random) ⌝ }

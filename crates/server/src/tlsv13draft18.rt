@@ -59,7 +59,7 @@ pub fn parse_tls_server_hello_tlsv13draft18(i: &[u8]) -> Draft18Answer
     })
 }
 
-// As those of the ClientHello.
+// Each accessor takes the bytes that the hello was read from; absent extensions are the empty part.
 impl TlsServerHelloV13Draft18Contents {
     pub fn random(self, body: &[u8]) -> &[u8]
         ensures { λ r. ⌜ now r ≡ partOf (now (body .entry)) (self .random) ⌝ }

@@ -47,7 +47,7 @@ Below w (Got n) = n .value < 256 ^ w
 unfoldable pub numberText : ℕ → ℕ → Answer (List ℕ)
 numberText w n = pick (ltb n (256 ^ w)) (accepted (bytesOf w n)) (refused (refusal BadLength 0 0))
 
--- the paper's number and values of each case
+-- as an `Answer`, which has the paper's number and the values
 abbrev pub numberSays : NumberAnswer → Answer Number
 numberSays (Refused r) = refused r
 numberSays (Got n) = accepted n

@@ -36,7 +36,7 @@ partAt past s at n =
     (accepted (record { view = record { start = at; len = n }; next = at + n }))
     (refused (refusal past at (n - (length s - at))))
 
--- the paper's number and values of each case
+-- as an `Answer`, which has the paper's number and the values
 abbrev pub partSays : PartAnswer → Answer Part
 partSays (Refused r) = refused r
 partSays (Got p) = accepted p

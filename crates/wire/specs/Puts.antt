@@ -23,7 +23,7 @@ unfoldable pub written : Answer (List ℕ) → ℕ → List ℕ → List ℕ
 written (accepted bs) at d = pick (leb (at + length bs) (length d)) (put d at bs) d
 written (refused r) at d = d
 
--- the paper's number and values of each case
+-- as an `Answer`, which has the paper's number and the values
 abbrev pub writeSays : WriteAnswer → Answer ℕ
 writeSays (Refused r) = refused r
 writeSays (Wrote n) = accepted n

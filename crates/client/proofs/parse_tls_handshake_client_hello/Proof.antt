@@ -8,9 +8,9 @@ use Rattle.wire.specs.Parts.{partSays}
 use Rattle.grammar.specs.Hellos.{ciphers, methods}
 use Rattle.grammar.specs.Forms.{reading}
 use Rattle.grammar.proofs.Chain.{So, begin, and, stop, stop-all, end}
-use Rattle.hello.specs.Start.{startFields, startSays}
+use Rattle.hello.specs.Start.{startSays}
 use Rattle.client.specs.Client.{client}
-use Rattle.hello.proofs.Begun.{Begun, begun, not-begun, after}
+use Rattle.hello.proofs.Begun.{startFields, Begun, begun, not-begun, after}
 use borrow.Author.Needs.{needs}
 use Rattle.client.proofs.parse_tls_handshake_client_hello.Statement.{statement}
 use Rattle.client.proofs.parse_tls_handshake_client_hello.Tie as tie

@@ -1,48 +1,39 @@
 -- `hello::parse_start` meets its contract, field by field. Assumes nothing.
 use Prim.Native.Nat.{ℕ}
-use mathlib.Core.Path.{_≡_, refl, sym, _∙_}
+use mathlib.Core.Path.{sym, _∙_}
 use mathlib.Core.List.{List, [], _∷_}
 use native.Mathlib.Omega.{arith}
 use denote.Ref.{now}
-use Rattle.refusal.specs.Answers.{accepted, then}
 use Rattle.refusal.proofs.Told.{case}
 use Rattle.wire.specs.Parts.{partSays}
 use Rattle.wire.specs.Numbers.{numberSays}
 use Rattle.wire.proofs.Numbers.{number-value, below-limit}
-use Rattle.field.specs.Fields.{Field}
 use Rattle.field.proofs.Rules.{number-field, number-field-no}
 use Rattle.grammar.specs.Hellos.{random, sessionId}
-use Rattle.grammar.specs.Reading.{fieldsAt}
-use Rattle.grammar.proofs.Chain.{So, and, stop, end}
-use Rattle.hello.specs.Start.{startFields, startOf, startAt}
+use Rattle.grammar.specs.Forms.{reading}
+use Rattle.grammar.proofs.Chain.{So, begin, and, stop, end}
+use Rattle.hello.specs.Start.{start}
 use borrow.Author.Needs.{needs}
 use Rattle.hello.proofs.parse_start.Statement.{statement}
 use Rattle.hello.proofs.parse_start.Tie as tie
-
-start-on : (s : List ℕ) → startAt s ≡ then (fieldsAt startFields s 0) (λ q. accepted (startOf s q))
-unfolding startAt
-start-on s = refl
-
-abbrev start : (s : List ℕ) → So (startAt s) s startFields
-start s = record { n = 0; k = λ q. accepted (startOf s q); on = start-on s }
 
 -- the bytes lent, and what the answer comes down to, once a field was found
 abbrev S1 : tie.After-n → List ℕ
 S1 c = now (c .before .before .before .before .args .i)
 
-abbrev at1 : (c : tie.After-n) → So (startAt (S1 c)) (S1 c) (random ∷ sessionId ∷ [])
-at1 c = and (start (S1 c)) (number-field 2 _ _ (case numberSays (c .before .before .parse-be .ensures .0) (c .n .given .1)))
+abbrev at1 : (c : tie.After-n) → So (reading start (S1 c)) (S1 c) (random ∷ sessionId ∷ [])
+at1 c = and (begin start (S1 c)) (number-field 2 _ _ (case numberSays (c .before .before .parse-be .ensures .0) (c .n .given .1)))
 
 abbrev S2 : tie.After-p → List ℕ
 S2 c = S1 (c .before .before .before .before)
 
-abbrev at2 : (c : tie.After-p) → So (startAt (S2 c)) (S2 c) (sessionId ∷ [])
+abbrev at2 : (c : tie.After-p) → So (reading start (S2 c)) (S2 c) (sessionId ∷ [])
 at2 c = and (at1 (c .before .before .before .before)) (case partSays (c .before .before .take .ensures) (c .p .given .1))
 
 abbrev S3 : tie.After-p2 → List ℕ
 S3 c = S2 (c .before .before .before .before)
 
-abbrev at3 : (c : tie.After-p2) → So (startAt (S3 c)) (S3 c) []
+abbrev at3 : (c : tie.After-p2) → So (reading start (S3 c)) (S3 c) []
 at3 c = and (at2 (c .before .before .before .before)) (case partSays (c .before .before .length-data .ensures) (c .p2 .given .1))
 
 parse-be-requires : tie.Need-parse-be-requires
@@ -52,7 +43,7 @@ enum-known-r : tie.Need-enum-known-r
 enum-known-r c = search needs
 
 returns : tie.Need-returns
-returns c = sym (stop (start _) (number-field-no 2 _ _ (case numberSays (c .before .before .before .parse-be .ensures .0) (c .before .r .given .1))))
+returns c = sym (stop (begin start _) (number-field-no 2 _ _ (case numberSays (c .before .before .before .parse-be .ensures .0) (c .before .r .given .1))))
 
 enum-known-n : tie.Need-enum-known-n
 enum-known-n c = search needs

@@ -1,6 +1,6 @@
 -- `server::tlsv12::parse_tls_server_hello_tlsv12` meets its contract, field by field. Assumes nothing.
 use Prim.Native.Nat.{ℕ}
-use mathlib.Core.Path.{_≡_, ap, sym, _∙_}
+use mathlib.Core.Path.{sym, _∙_}
 use mathlib.Core.Bool.{Bool}
 use mathlib.Core.List.{List, [], _∷_}
 use native.Mathlib.Omega.{arith}
@@ -12,9 +12,9 @@ use Rattle.field.proofs.Rules.{number-field, number-field-no}
 use Rattle.grammar.specs.Hellos.{cipher, compression}
 use Rattle.grammar.specs.Forms.{reading}
 use Rattle.grammar.proofs.Chain.{So, begin, and, stop, stop-all, end}
-use Rattle.hello.specs.Start.{startFields, startSays}
+use Rattle.hello.specs.Start.{startSays}
 use Rattle.server.specs.Server.{server}
-use Rattle.hello.proofs.Begun.{Begun, begun, not-begun, after}
+use Rattle.hello.proofs.Begun.{startFields, Begun, begun, not-begun, after}
 use borrow.Author.Needs.{needs}
 use Rattle.server.proofs.tlsv12.parse_tls_server_hello_tlsv12.Statement.{statement}
 use Rattle.server.proofs.tlsv12.parse_tls_server_hello_tlsv12.Tie as tie

@@ -1,6 +1,6 @@
 -- `server::tlsv13draft18::parse_tls_server_hello_tlsv13draft18` meets its contract, field by field. Assumes nothing.
 use Prim.Native.Nat.{ℕ}
-use mathlib.Core.Path.{_≡_, ap, sym, _∙_}
+use mathlib.Core.Path.{sym, _∙_}
 use mathlib.Core.List.{List, [], _∷_}
 use native.Mathlib.Omega.{arith}
 use denote.Ref.{now}
