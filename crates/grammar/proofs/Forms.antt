@@ -10,11 +10,11 @@ use Rattle.refusal.proofs.Then.{not-both, then-accepted, then-refused}
 use Rattle.wire.specs.Numbers.{Bytes}
 use Rattle.wire.specs.declared.view.OptView.{OptView}
 use Rattle.grammar.specs.Grammars.{Handed}
-use Rattle.grammar.specs.Splits.{Pieces, Split, handedOf, piecesOf, FirstLacks}
+use Rattle.grammar.specs.Splits.{Pieces, Split, handedOf, FirstLacks}
 use Rattle.grammar.specs.Reading.{read}
 use Rattle.grammar.specs.Forms.{Form, Outs, outs, valueOf, reading, pieces, views}
 use Rattle.grammar.specs.Demand3.{InRow, BySplit}
-use Rattle.grammar.proofs.Whole.{whichever, accepts, splits, only, order, refuses, lacks}
+use Rattle.grammar.proofs.Whole.{piecesOf, whichever, accepts, splits, only, order, refuses, lacks}
 use Rattle.grammar.proofs.Outs.{AllSuit, all-named, all-in-row}
 
 -- a form is lawful where a number is of as many bytes as its field, and a value tells what it was made of

@@ -17,10 +17,10 @@ use Rattle.wire.proofs.Numbers.{be-drop, of-be}
 use Rattle.field.specs.Fields.{Field, fixed}
 use Rattle.field.specs.Standing.{Obeys}
 use Rattle.grammar.specs.Grammars.{Each}
-use Rattle.grammar.specs.Splits.{AllObey, partsOf}
+use Rattle.grammar.specs.Splits.{AllObey}
 use Rattle.grammar.specs.Forms.{How, asView, asPart, asNumber, absentIfEmpty, out, named, ifThere, seen, outs, allNamed, allSeen}
 use Rattle.grammar.specs.Demand3.{InRow}
-use Rattle.grammar.proofs.Whole.{InOrder}
+use Rattle.grammar.proofs.Whole.{partsOf, InOrder}
 
 -- a field of w bytes alone is handed out as a number of w bytes
 abbrev pub Suits : Field → How → Type 0

@@ -20,9 +20,17 @@ use Rattle.field.specs.Fields.{Field, fixed, counted, step}
 use Rattle.field.specs.Standing.{fieldBytes, placeOf}
 use Rattle.grammar.specs.Grammars.{Grammar, Each, Handed}
 use Rattle.grammar.specs.Reading.{fieldsAt, ifFits, blockAt, lastAt, withLast, read}
-use Rattle.grammar.specs.Splits.{AllObey, join, Pieces, blockBytes, BlockObeys, Split, viewsOf, blockView, handedOf, partsOf, blockOf, piecesOf, FirstLacks}
+use Rattle.grammar.specs.Splits.{AllObey, join, Pieces, blockBytes, BlockObeys, Split, viewsOf, blockView, handedOf, blockOf, FirstLacks}
 use Rattle.grammar.specs.declared.OptPart.{OptPart}
 use Rattle.field.proofs.Steps.{length-counted, step-of, left-of, past-in, view-of, Found, step-back, step-lacks, lacks-back}
+
+-- the bytes that were handed out
+abbrev pub partsOf : List ℕ → (fs : List Field) → Each View fs → Each (List ℕ) fs
+partsOf s [] vs = tt
+partsOf s (f ∷ fs) (v, vs) = (partOf s v, partsOf s fs vs)
+
+abbrev pub piecesOf : (g : Grammar) → List ℕ → Handed g → Pieces g
+piecesOf g s h = record { parts = partsOf s (g .fields) (h .views); block = blockOf s (h .block); tail = drop (h .tail) s }
 
 -- the fields, where their bytes stand at a place
 record Stand (fs : List Field) (s : List ℕ) (at : ℕ) (ps : Each (List ℕ) fs) (rest : List ℕ) : Type 0 where

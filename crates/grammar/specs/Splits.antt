@@ -6,7 +6,7 @@ use mathlib.Core.Path.{_≡_}
 use mathlib.Core.Logic.{_⊎_}
 use mathlib.Core.List.{List, [], _∷_, _++_}
 use mathlib.Core.Option.{Option, none, some}
-use lib.ListN.{length, drop}
+use lib.ListN.{length}
 use Rattle.refusal.specs.declared.Refusal.{Refusal}
 use Rattle.wire.specs.Parts.{partOf}
 use Rattle.wire.specs.declared.view.View.{View}
@@ -68,17 +68,10 @@ handedOf g x = record {
   tail = length (join (g .fields) (x .parts)) + length (blockBytes (g .block) (x .block));
 }
 
--- the bytes that were handed out
-abbrev pub partsOf : List ℕ → (fs : List Field) → Each View fs → Each (List ℕ) fs
-partsOf s [] vs = tt
-partsOf s (f ∷ fs) (v, vs) = (partOf s v, partsOf s fs vs)
-
+-- the bytes of a block that was handed out
 abbrev pub blockOf : List ℕ → OptView → Option (List ℕ)
 blockOf s Absent = none
 blockOf s (Present v) = some (partOf s v)
-
-abbrev pub piecesOf : (g : Grammar) → List ℕ → Handed g → Pieces g
-piecesOf g s h = record { parts = partsOf s (g .fields) (h .views); block = blockOf s (h .block); tail = drop (h .tail) s }
 
 -- the first field that cannot be had: those before it stand in the bytes, and it lacks
 abbrev pub FirstLacks : List Field → ℕ → List ℕ → Refusal → Type 0
