@@ -1,5 +1,5 @@
--- A reading, field by field: what it comes down to once the fields so far were found. A reader's proof adds one `and` for each field, or one
--- `and-all` for fields in a row, and answers each early return by one `stop`. Assumes nothing.
+-- A reading, field by field: what it comes down to once the fields so far were found. A reader's proof adds one `and` for each field, and
+-- answers each early return by one `stop`; `and-all-on` and `stop-all` do so for fields in a row. Assumes nothing.
 use Prim.Native.Nat.{ℕ}
 use mathlib.Core.Path.{_≡_, refl, sym, _∙_}
 use mathlib.Core.List.{List, [], _∷_, _++_}
@@ -84,13 +84,10 @@ rows (f ∷ fs) gs s at = go (step f s at) (λ n. rows fs gs s n)
         (then-both (fieldsAt fs s (p .next)) (λ q. fieldsAt gs s (q .1)) (onto fs gs) (one f (fs ++ gs) (p .view))
         ∙ sym (then-then (fieldsAt fs s (p .next)) (one f fs (p .view)) (λ q. then (fieldsAt gs s (q .1)) (λ t. accepted (onto (f ∷ fs) gs q t)))))
 
+-- some fields more
 pub and-all-on : {X : Type 0} {whole : Answer X} {s : List ℕ} (fs gs : List Field) (o : So whole s (fs ++ gs)) {q : Each View fs × ℕ} → fieldsAt fs s (o .n) ≡ accepted q
     → whole ≡ then (fieldsAt gs s (q .1)) (λ t. o .k (both fs gs (q .0) (t .0), t .1))
 and-all-on {s = s} fs gs o {q} e = o .on ∙ rw (rows fs gs s (o .n), e) (then-then (fieldsAt gs s (q .1)) (onto fs gs q) (o .k))
-
--- some fields more
-abbrev pub and-all : {X : Type 0} {whole : Answer X} {s : List ℕ} (fs gs : List Field) (o : So whole s (fs ++ gs)) {q : Each View fs × ℕ} → fieldsAt fs s (o .n) ≡ accepted q → So whole s gs
-and-all fs gs o {q} e = record { n = q .1; k = λ t. o .k (both fs gs (q .0) (t .0), t .1); on = and-all-on fs gs o e }
 
 -- some fields, of which one cannot be had
 pub stop-all : {X : Type 0} {whole : Answer X} {s : List ℕ} (fs gs : List Field) (o : So whole s (fs ++ gs)) {r : Refusal} → fieldsAt fs s (o .n) ≡ refused r → whole ≡ refused r

@@ -4,7 +4,6 @@ use libc::STDOUT_FILENO;
 use norrabist::ClientHelloAnswer;
 use norrabist::MessageAnswer;
 use norrabist::OptView;
-use norrabist::Reason;
 use norrabist::Refusal;
 use norrabist::ServerHelloAnswer;
 use norrabist::TlsClientHelloContents;
@@ -34,30 +33,11 @@ fn say_hex(name: &[u8], n: u16, digits: usize) {
     io::print_hex(STDOUT_FILENO, n as u64, digits);
 }
 
-// The name in document 01's table.
-fn say_reason(r: Refusal) {
-    let reason = r.reason;
-    match reason {
-        Reason::Incomplete => say(b"Incomplete"),
-        Reason::Complete => say(b"Complete"),
-        Reason::Verify => say(b"Verify"),
-        Reason::LengthValue => say(b"LengthValue"),
-        Reason::Tag => say(b"Tag"),
-        Reason::Switch => say(b"Switch"),
-        Reason::TooLarge => say(b"TooLarge"),
-        Reason::BadLength => say(b"BadLength"),
-        Reason::NoRoom => say(b"NoRoom"),
-        Reason::Elsewhere => say(b"Elsewhere"),
-        Reason::NoSuch => say(b"NoSuch"),
-        Reason::NotYetImplemented => say(b"NotYetImplemented"),
-    }
-}
-
+// A refusal is its number alone.
 fn say_refused(r: Refusal) {
-    say_reason(r);
-    say(b" (");
+    say(b"refused ");
     say_number(norrabist::refusal_number(r) as usize);
-    say(b")\n");
+    say(b"\n");
 }
 
 fn say_opt(name: &[u8], v: OptView) {
@@ -253,6 +233,7 @@ fn accessor_rows() {
 
 fn main() {
     say(b"Z is 32 zero bytes, H is 0303 Z 00 0000 00\n");
+    say(b"refused 1 is Incomplete, 3 Verify, 4 LengthValue, 5 Tag\n");
     client_rows();
     version_rows();
     server_rows();
