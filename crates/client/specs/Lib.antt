@@ -1,3 +1,2 @@
 pub mod Client
 pub mod Demand3
-pub mod Readings

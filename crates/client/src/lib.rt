@@ -99,11 +99,7 @@ impl TlsClientHelloContents {
     pub fn rand_bytes(self, body: &[u8]) -> &[u8]
         ensures { λ r. ⌜ now r ≡ drop 4 (partOf (now (body .entry)) (self .random)) ⌝ }
     {
-        let random = self.random(body);
-        if random.len() < 4 {
-            return &random[..0];
-        }
-        &random[4..]
+        wire::view::rest_of(self.random(body), 4)
     }
 
     // An absent id is the empty part.

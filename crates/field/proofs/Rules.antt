@@ -41,18 +41,29 @@ abbrev pub least : Field → ℕ
 least (fixed n) = n
 least (counted w r) = w
 
+-- where the part of a counted field lies, and that its length is allowed
+pub record Lies (w : ℕ) (r : Rule) (s : List ℕ) (at : ℕ) (p : Part) : Type 0 where
+  pub start : p .view .start ≡ at + w
+  pub next : p .next ≡ at + w + p .view .len
+  pub inside : p .next ≤ length s
+  pub allowed : r .allows (p .view .len) ≡ true
+
+pub counted-lies : (w : ℕ) (r : Rule) (s : List ℕ) (at : ℕ) {p : Part} → step (counted w r) s at ≡ accepted p → Lies w r s at p
+unfolding step
+counted-lies w r s at e =
+    let t = then-accepted (numberAt w s at) (λ l. ruled r s (l .next) (l .value)) e in
+    let n = number-is w s at (t .1) in
+    let u = ruled-accepted r s (at + w) (be w s at) (rw (n .is) at (t .2)) in
+    let g = fits (r .past) s (at + w) (be w s at) (u .1) in
+    rw (g .is) (record { start = refl; next = refl; inside = g .inside; allowed = u .0 })
+
 -- a field that was found takes them, and lies within the bytes
 pub step-in : (f : Field) (s : List ℕ) (at : ℕ) {p : Part} → step f s at ≡ accepted p → (at + least f ≤ p .next) × (p .next ≤ length s)
 unfolding step
 step-in (fixed n) s at e =
     let g = fits _ s at n e in
     rw (g .is) (omega arith, g .inside)
-step-in (counted w r) s at e =
-    let t = then-accepted (numberAt w s at) (λ l. ruled r s (l .next) (l .value)) e in
-    let n = number-is w s at (t .1) in
-    let u = ruled-accepted r s (at + w) (be w s at) (rw (n .is) at (t .2)) in
-    let g = fits (r .past) s (at + w) (be w s at) (u .1) in
-    rw (g .is) (omega arith, g .inside)
+step-in (counted w r) s at e = let l = counted-lies w r s at e in (omega (arith, l .next), l .inside)
 
 -- a number is a fixed part of its width
 pub number-field : (w : ℕ) (s : List ℕ) (at : ℕ) {l : Number} → numberAt w s at ≡ accepted l → step (fixed w) s at ≡ accepted (record { view = record { start = at; len = w }; next = l .next })

@@ -14,6 +14,7 @@ pub enum Kind {
     SessionId,
     Ciphers,
     Methods,
+    Fragment,
 }
 
 // The next `n` bytes.
@@ -31,6 +32,7 @@ fn allows(kind: Kind, n: usize) -> bool
         Kind::SessionId => n <= 32,
         Kind::Ciphers => n % 2 == 0,
         Kind::Methods => true,
+        Kind::Fragment => n <= 16_640,
     }
 }
 
@@ -43,6 +45,7 @@ fn broken(kind: Kind) -> Reason
         Kind::SessionId => Reason::Verify,
         Kind::Ciphers => Reason::LengthValue,
         Kind::Methods => Reason::LengthValue,
+        Kind::Fragment => Reason::TooLarge,
     }
 }
 
@@ -55,6 +58,7 @@ fn past(kind: Kind) -> Reason
         Kind::SessionId => Reason::Incomplete,
         Kind::Ciphers => Reason::LengthValue,
         Kind::Methods => Reason::LengthValue,
+        Kind::Fragment => Reason::Incomplete,
     }
 }
 

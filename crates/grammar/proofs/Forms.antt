@@ -3,25 +3,44 @@ use Prim.Native.Nat.{ℕ, _≤_}
 use mathlib.Core.Path.{_≡_, refl}
 use mathlib.Core.Logic.{_⊎_, inl, inr}
 use mathlib.Core.List.{List}
+use mathlib.Core.Option.{Option, none, some}
 use lib.ListN.{length}
 use Rattle.refusal.specs.Answers.{Answer, accepted, refused}
 use Rattle.refusal.specs.declared.Refusal.{Refusal}
 use Rattle.refusal.proofs.Then.{not-both, then-accepted, then-refused}
 use Rattle.wire.specs.Numbers.{Bytes}
 use Rattle.wire.specs.declared.view.OptView.{OptView}
-use Rattle.grammar.specs.Grammars.{Handed}
+use Rattle.wire.specs.declared.view.OptView.the-variants.{Absent}
+use Rattle.field.specs.Fields.{Field}
+use Rattle.grammar.specs.Grammars.{Grammar, Handed}
 use Rattle.grammar.specs.Splits.{Pieces, Split, handedOf, FirstLacks}
-use Rattle.grammar.specs.Reading.{read}
+use Rattle.grammar.specs.Reading.{fieldsAt, lastAt, withLast, read}
 use Rattle.grammar.specs.Forms.{Form, Outs, outs, valueOf, reading, pieces, views}
 use Rattle.grammar.specs.Demand3.{InRow, BySplit}
 use Rattle.grammar.proofs.Whole.{piecesOf, whichever, accepts, splits, only, order, refuses, lacks}
 use Rattle.grammar.proofs.Outs.{AllSuit, all-named, all-in-row}
 
+-- the block that a grammar may hand out: one without a block hands out none
+abbrev pub ifAny : Option Field → OptView → OptView
+ifAny none e = Absent
+ifAny (some f) e = e
+
+last-any : (b : Option Field) (s : List ℕ) (at : ℕ) → ifAny b (lastAt b s at .view) ≡ lastAt b s at .view
+last-any none s at = refl
+last-any (some f) s at = refl
+
+read-any : (g : Grammar) (s : List ℕ) (h : Handed g) → read g s ≡ accepted h → ifAny (g .block) (h .block) ≡ h .block
+unfolding read
+read-any g s h e =
+    let t = then-accepted (fieldsAt (g .fields) s 0) (λ q. accepted (withLast g (q .0) (lastAt (g .block) s (q .1)))) e in
+    let d : withLast g (t .0 .0) (lastAt (g .block) s (t .0 .1)) ≡ h = cc (t .2) in
+    rw (← d) (last-any (g .block) s (t .0 .1))
+
 -- a form is lawful where a number is of as many bytes as its field, and a value tells what it was made of
 pub record Lawful {C : Type 0} (k : Form C) : Type 0 where
   pub suits : AllSuit (k .grammar .fields) (k .how)
   pub handed : (o : Outs (k .grammar .fields) (k .how)) (e : OptView) (t : ℕ) → k .handed (k .value o e t) ≡ o
-  pub block : (o : Outs (k .grammar .fields) (k .how)) (e : OptView) (t : ℕ) → k .block (k .value o e t) ≡ e
+  pub block : (o : Outs (k .grammar .fields) (k .how)) (e : OptView) (t : ℕ) → k .block (k .value o (ifAny (k .grammar .block) e) t) ≡ ifAny (k .grammar .block) e
   pub tail : (o : Outs (k .grammar .fields) (k .how)) (e : OptView) (t : ℕ) → k .tail (k .value o e t) ≡ t
 
 module _ {C : Type 0} (k : Form C) (l : Lawful k) (s : List ℕ) (b : Bytes s) where
@@ -30,17 +49,20 @@ module _ {C : Type 0} (k : Form C) (l : Lawful k) (s : List ℕ) (b : Bytes s) w
   unfolding reading
   made c e = let t = then-accepted (read (k .grammar) s) (λ h. accepted (valueOf k s h)) e in (t .0, t .1, cc (t .2))
 
+  block-back : (h : Handed (k .grammar)) → read (k .grammar) s ≡ accepted h → k .block (valueOf k s h) ≡ h .block
+  block-back h e = rw (read-any (k .grammar) s h e) at (l .block (outs (k .grammar .fields) (k .how) s (h .views)) (h .block) (h .tail))
+
   -- and names its pieces
-  names : (h : Handed (k .grammar)) → Split (k .grammar) s (piecesOf (k .grammar) s h) → pieces k s (valueOf k s h) ≡ piecesOf (k .grammar) s h
-  names h y =
+  names : (h : Handed (k .grammar)) → read (k .grammar) s ≡ accepted h → Split (k .grammar) s (piecesOf (k .grammar) s h) → pieces k s (valueOf k s h) ≡ piecesOf (k .grammar) s h
+  names h e y =
       let o = outs (k .grammar .fields) (k .how) s (h .views) in
-      rw (l .handed o (h .block) (h .tail), l .block o (h .block) (h .tail), l .tail o (h .block) (h .tail), all-named (k .grammar .fields) (k .how) (l .suits) s (h .views) b (y .obey))
+      rw (l .handed o (h .block) (h .tail), block-back h e, l .tail o (h .block) (h .tail), all-named (k .grammar .fields) (k .how) (l .suits) s (h .views) b (y .obey))
 
   value-splits : (c : C) → reading k s ≡ accepted c → Split (k .grammar) s (pieces k s c)
   value-splits c e =
       let m = made c e in
       let y = splits (k .grammar) s b (m .0) (m .1) in
-      rw (← (m .2), names (m .0) y) y
+      rw (← (m .2), names (m .0) (m .1) y) y
 
   value-order : (c : C) → reading k s ≡ accepted c → InRow 0 (views k c) (k .tail c) × (k .tail c ≤ length s)
   value-order c e =
@@ -48,7 +70,7 @@ module _ {C : Type 0} (k : Form C) (l : Lawful k) (s : List ℕ) (b : Bytes s) w
       let h = m .0 in
       let r = order (k .grammar) s b h (m .1) in
       let o = outs (k .grammar .fields) (k .how) s (h .views) in
-      rw (← (m .2), l .handed o (h .block) (h .tail), l .block o (h .block) (h .tail), l .tail o (h .block) (h .tail))
+      rw (← (m .2), l .handed o (h .block) (h .tail), block-back h (m .1), l .tail o (h .block) (h .tail))
       (all-in-row (k .grammar .fields) (k .how) s (h .views) (h .block) 0 (h .tail) (r .0), r .1)
 
   value-accepts : (x : Pieces (k .grammar)) → Split (k .grammar) s x → reading k s ≡ accepted (valueOf k s (handedOf (k .grammar) x))

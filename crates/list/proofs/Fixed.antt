@@ -18,14 +18,14 @@ use Rattle.list.specs.Items.{itemsFrom, items, place, numberPlace}
 use Rattle.list.proofs.Walk.{place-past}
 
 module _ (w : ℕ) (one : 1 ≤ w) (s : List ℕ) where
-  count-from : (n at : ℕ) → length s - at ≤ n → length (itemsFrom n (fixed w) s at) ≡ (length s - at) / w
+  count-from : (n at : ℕ) → length s - at ≤ n → length (itemsFrom n (step (fixed w) s) (λ (p : Part). p .next) at) ≡ (length s - at) / w
   unfolding itemsFrom step
   count-from zero at h =
       let z : length s - at ≡ 0 = omega arith in
       rw z (sym (div-eq-of-lt (omega arith)))
   count-from (suc n) at h = go (λ p l. count-from n p l) (partAt Incomplete s at w) refl
     where
-      go : ((p : ℕ) → length s - p ≤ n → length (itemsFrom n (fixed w) s p) ≡ (length s - p) / w) → (a : Answer Part) → partAt Incomplete s at w ≡ a → length (itemsFrom (suc n) (fixed w) s at) ≡ (length s - at) / w
+      go : ((p : ℕ) → length s - p ≤ n → length (itemsFrom n (step (fixed w) s) (λ (p : Part). p .next) p) ≡ (length s - p) / w) → (a : Answer Part) → partAt Incomplete s at w ≡ a → length (itemsFrom (suc n) (step (fixed w) s) (λ (p : Part). p .next) at) ≡ (length s - at) / w
       go ih (accepted p) e =
           let f = fits Incomplete s at w e in
           let i : at + w ≤ length s = f .inside in
@@ -38,7 +38,7 @@ module _ (w : ℕ) (one : 1 ≤ w) (s : List ℕ) where
   pub count-of : length (items (fixed w) s) ≡ length s / w
   count-of = rw sub-zero at (count-from (length s) 0 (omega arith))
 
-  place-from : (j n at : ℕ) → length s - at ≤ n → at + (j * w + w) ≤ length s → place j (itemsFrom n (fixed w) s at) ≡ accepted (found (at + j * w) w)
+  place-from : (j n at : ℕ) → length s - at ≤ n → at + (j * w + w) ≤ length s → place j (itemsFrom n (step (fixed w) s) (λ (p : Part). p .next) at) ≡ accepted (found (at + j * w) w)
   unfolding itemsFrom step place
   place-from j zero at h l = absurd (omega arith)
   place-from zero (suc n) at h l = rw (part-in Incomplete s at w (omega arith), zero-mul, add-zero)

@@ -1,3 +1,4 @@
 pub mod Walk
+pub mod Fields
 pub mod Fixed
 pub mod Listed

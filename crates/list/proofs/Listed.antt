@@ -17,20 +17,24 @@ use Rattle.field.specs.Standing.{fieldBytes, NoneAt}
 use Rattle.field.proofs.Steps.{step-of, left-of, past-in, view-of, step-back, Found}
 use Rattle.list.specs.Items.{items, itemFrom, place}
 use Rattle.list.specs.Listing.{EachObeys, joinItems, Holds, standing, bytesHanded, ByItems}
-use Rattle.list.proofs.Walk.{rest, rest-on, rest-end, rest-all, first, go-on, place-below, place-past}
+use Rattle.list.proofs.Walk.{rest-on, rest-end, rest-all, go-on, place-below, place-past}
+use Rattle.list.proofs.Fields.{left, by-steps, item-first}
+
+all-left : (f : Field) (s : List ℕ) → items f s ≡ left f s 0
+all-left f s = rest-all (step f s) (λ (p : Part). p .next) (length s)
 
 module _ (f : Field) (one : 1 ≤ least f) (s : List ℕ) (b : Bytes s) where
   -- no item is found where none stands
-  none-found : (at : ℕ) → NoneAt f (drop at s) → rest f s at ≡ []
+  none-found : (at : ℕ) → NoneAt f (drop at s) → left f s at ≡ []
   none-found at n = go (step f s at) refl
     where
-      go : (a : Answer Part) → step f s at ≡ a → rest f s at ≡ []
+      go : (a : Answer Part) → step f s at ≡ a → left f s at ≡ []
       go (accepted p) e = let w = step-back f s at b e in absurd (n (partOf s (p .view)) (drop (p .next) s) (w .obeys) (w .bytes))
-      go (refused r) e = rest-end f one s at e
+      go (refused r) e = rest-end (by-steps f one s) at e
 
   -- the items that stand from a place on are handed out, and their bytes are the items
   record Handed (at : ℕ) (xs : List (List ℕ)) : Type 0 where
-    where-they-stand : rest f s at ≡ standing f at xs
+    where-they-stand : left f s at ≡ standing f at xs
     their-bytes : bytesHanded s (standing f at xs) ≡ xs
 
   handed : (at : ℕ) (xs : List (List ℕ)) (r : List ℕ) → at ≤ length s → EachObeys f xs → drop at s ≡ joinItems f xs ++ r → NoneAt f r → Handed at xs
@@ -40,7 +44,7 @@ module _ (f : Field) (one : 1 ≤ least f) (s : List ℕ) (b : Bytes s) where
       let e : drop at s ≡ fieldBytes f x ++ (joinItems f xs ++ r) = d ∙ append-assoc (fieldBytes f x) (joinItems f xs) r in
       let i = handed (at + length (fieldBytes f x)) xs r (past-in f s at x _ h e) os (left-of f s at x _ e) n in
       record {
-        where-they-stand = rest-on f one s at (step-of f s at x _ h o e) ∙ rw (i .where-they-stand);
+        where-they-stand = rest-on (by-steps f one s) at (step-of f s at x _ h o e) ∙ rw (i .where-they-stand);
         their-bytes = ap₂ (λ (y : List ℕ) (ys : List (List ℕ)). y ∷ ys) (view-of f s at x _ h e) (i .their-bytes);
       }
 
@@ -51,9 +55,9 @@ module _ (f : Field) (one : 1 ≤ least f) (s : List ℕ) (b : Bytes s) where
     bytes : drop at s ≡ joinItems f (bytesHanded s ps) ++ remainder
     stops : NoneAt f remainder
 
-  stands-end : (at : ℕ) {r : Refusal} → at ≤ length s → step f s at ≡ refused r → Stands at (rest f s at)
+  stands-end : (at : ℕ) {r : Refusal} → at ≤ length s → step f s at ≡ refused r → Stands at (left f s at)
   unfolding joinItems
-  stands-end at h e = rw (rest-end f one s at e) (record { remainder = drop at s; obey = tt; bytes = refl; stops = λ p t o d. not-both (step-of f s at p t h o d) e })
+  stands-end at h e = rw (rest-end (by-steps f one s) at e) (record { remainder = drop at s; obey = tt; bytes = refl; stops = λ p t o d. not-both (step-of f s at p t h o d) e })
 
   stands-on : (at : ℕ) (p : Part) (ps : List Part) → Found f s at p → Stands (p .next) ps → Stands at (p ∷ ps)
   unfolding joinItems
@@ -64,30 +68,30 @@ module _ (f : Field) (one : 1 ≤ least f) (s : List ℕ) (b : Bytes s) where
     stops = i .stops;
   }
 
-  stands : (fuel at : ℕ) → at ≤ length s → length s - at ≤ fuel → Stands at (rest f s at)
+  stands : (fuel at : ℕ) → at ≤ length s → length s - at ≤ fuel → Stands at (left f s at)
   stands zero at h k = go (step f s at) refl
     where
-      go : (a : Answer Part) → step f s at ≡ a → Stands at (rest f s at)
+      go : (a : Answer Part) → step f s at ≡ a → Stands at (left f s at)
       go (accepted p) e = let i = step-in f s at e in absurd (omega arith)
       go (refused r) e = stands-end at h e
   stands (suc fuel) at h k = go (λ n l m. stands fuel n l m) (step f s at) refl
     where
-      go : ((n : ℕ) → n ≤ length s → length s - n ≤ fuel → Stands n (rest f s n)) → (a : Answer Part) → step f s at ≡ a → Stands at (rest f s at)
+      go : ((n : ℕ) → n ≤ length s → length s - n ≤ fuel → Stands n (left f s n)) → (a : Answer Part) → step f s at ≡ a → Stands at (left f s at)
       go ih (accepted p) e =
           let i = step-in f s at e in
-          rw (rest-on f one s at e) (stands-on at p (rest f s (p .next)) (step-back f s at b e) (ih (p .next) (omega arith) (omega arith)))
+          rw (rest-on (by-steps f one s) at e) (stands-on at p (left f s (p .next)) (step-back f s at b e) (ih (p .next) (omega arith) (omega arith)))
       go ih (refused r) e = stands-end at h e
 
   holds : (r : List ℕ) × Holds f s (bytesHanded s (items f s)) r
   holds =
       let i = stands (length s) 0 (omega arith) (omega arith) in
-      rw (rest-all f s) (i .remainder, record { obey = i .obey; whole = i .bytes; stops = i .stops })
+      rw (all-left f s) (i .remainder, record { obey = i .obey; whole = i .bytes; stops = i .stops })
 
   of-holds : (xs : List (List ℕ)) (r : List ℕ) → Holds f s xs r → Handed 0 xs
   of-holds xs r y = handed 0 xs r (omega arith) (y .obey) (y .whole) (y .stops)
 
   hands : (xs : List (List ℕ)) (r : List ℕ) → Holds f s xs r → items f s ≡ standing f 0 xs
-  hands xs r y = rest-all f s ∙ of-holds xs r y .where-they-stand
+  hands xs r y = all-left f s ∙ of-holds xs r y .where-they-stand
 
   only : (xs ys : List (List ℕ)) (r t : List ℕ) → Holds f s xs r → Holds f s ys t → (xs ≡ ys) × (r ≡ t)
   only xs ys r t x y =
@@ -96,10 +100,11 @@ module _ (f : Field) (one : 1 ≤ least f) (s : List ℕ) (b : Bytes s) where
       (e, sym (drop-at (joinItems f xs) r _ refl) ∙ ap (drop (length (joinItems f xs))) d ∙ drop-at (joinItems f xs) t _ refl)
 
   begins : place 0 (items f s) ≡ itemFrom f s 0
-  begins = rw (rest-all f s) (first f one s 0)
+  begins = rw (all-left f s) (item-first f one s 0)
 
   goes-on : (n : ℕ) (p : Part) → place n (items f s) ≡ accepted p → place (suc n) (items f s) ≡ itemFrom f s (p .next)
-  goes-on n p e = rw (rest-all f s) (go-on f one s n 0 (rw (rest-all f s) at e))
+  unfolding itemFrom
+  goes-on n p e = rw (all-left f s) (go-on (by-steps f one s) n 0 (rw (all-left f s) at e))
 
 pub by-items : (f : Field) → 1 ≤ least f → (s : List ℕ) → Bytes s → ByItems f s
 by-items f one s b = record { holds = holds f one s b; hands = hands f one s b; only = only f one s b; below = λ n. place-below n (items f s); past = λ n. place-past n (items f s); begins = begins f one s b; goesOn = goes-on f one s b }

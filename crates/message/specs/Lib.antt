@@ -1,3 +1,1 @@
 pub mod Messages
-pub mod Hellos
-pub mod Demand3

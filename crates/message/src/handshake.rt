@@ -1,16 +1,81 @@
 // A handshake message, one case for each kind that is opened.
+ghost use mathlib.Core.Path.{_≡_};
+ghost use lib.ListN.{drop};
+ghost use Rattle.message.specs.Messages.{exchangeTail, tailOf};
+use crate::keyexchange::TlsClientKeyExchangeContents;
+use crate::keyexchange::TlsServerKeyExchangeContents;
+use body::next_protocol::TlsNextProtocolContent;
+use body::retry::TlsHelloRetryRequestContents;
+use body::ticket::TlsNewSessionTicketContent;
+use certs::certificate::TlsCertificateContents;
+use certs::request::TlsCertificateRequestContents;
+use certs::status::TlsCertificateStatusContents;
 use client::TlsClientHelloContents;
 use refusal::Refusal;
 use server::tlsv12::TlsServerHelloContents;
 use server::tlsv13draft18::TlsServerHelloV13Draft18Contents;
+use wire::view::View;
 
+// Every view in it is of the message's body.
 pub enum TlsMessageHandshake {
+    HelloRequest,
     ClientHello(TlsClientHelloContents),
     ServerHello(TlsServerHelloContents),
     ServerHelloV13Draft18(TlsServerHelloV13Draft18Contents),
+    NewSessionTicket(TlsNewSessionTicketContent),
+    EndOfEarlyData,
+    HelloRetryRequest(TlsHelloRetryRequestContents),
+    Certificate(TlsCertificateContents),
+    ServerKeyExchange(TlsServerKeyExchangeContents),
+    CertificateRequest(TlsCertificateRequestContents),
+    ServerDone(View),
+    CertificateVerify(View),
+    ClientKeyExchange(TlsClientKeyExchangeContents),
+    Finished(View),
+    CertificateStatus(TlsCertificateStatusContents),
+    NextProtocol(TlsNextProtocolContent),
+    KeyUpdate(u8),
 }
 
 pub enum MessageAnswer {
     Refused(Refusal),
     Got(TlsMessageHandshake),
+}
+
+// What is left of the body behind a key exchange.
+fn behind_exchange(k: TlsClientKeyExchangeContents, body: &[u8]) -> &[u8]
+    ensures { λ r. ⌜ now r ≡ drop (exchangeTail k) (now (body .entry)) ⌝ }
+{
+    match k {
+        TlsClientKeyExchangeContents::Dh(v) => wire::view::behind(body, v),
+        TlsClientKeyExchangeContents::Ecdh(v) => wire::view::behind(body, v),
+        TlsClientKeyExchangeContents::Unknown(v) => wire::view::behind(body, v),
+    }
+}
+
+impl TlsMessageHandshake {
+    // What the body's reader left over of the body.
+    pub fn rest(self, body: &[u8]) -> &[u8]
+        ensures { λ r. ⌜ now r ≡ drop (tailOf self) (now (body .entry)) ⌝ }
+    {
+        match self {
+            TlsMessageHandshake::HelloRequest => wire::view::rest_of(body, 0),
+            TlsMessageHandshake::ClientHello(c) => wire::view::rest_of(body, c.tail),
+            TlsMessageHandshake::ServerHello(c) => wire::view::rest_of(body, c.tail),
+            TlsMessageHandshake::ServerHelloV13Draft18(c) => wire::view::rest_of(body, c.tail),
+            TlsMessageHandshake::NewSessionTicket(c) => wire::view::rest_of(body, c.tail),
+            TlsMessageHandshake::EndOfEarlyData => wire::view::rest_of(body, 0),
+            TlsMessageHandshake::HelloRetryRequest(c) => wire::view::rest_of(body, c.tail),
+            TlsMessageHandshake::Certificate(c) => wire::view::rest_of(body, c.tail),
+            TlsMessageHandshake::ServerKeyExchange(c) => wire::view::behind(body, c.parameters),
+            TlsMessageHandshake::CertificateRequest(c) => wire::view::rest_of(body, c.tail),
+            TlsMessageHandshake::ServerDone(v) => wire::view::behind(body, v),
+            TlsMessageHandshake::CertificateVerify(v) => wire::view::behind(body, v),
+            TlsMessageHandshake::ClientKeyExchange(k) => behind_exchange(k, body),
+            TlsMessageHandshake::Finished(v) => wire::view::behind(body, v),
+            TlsMessageHandshake::CertificateStatus(c) => wire::view::rest_of(body, c.tail),
+            TlsMessageHandshake::NextProtocol(c) => wire::view::rest_of(body, c.tail),
+            TlsMessageHandshake::KeyUpdate(_) => wire::view::rest_of(body, 1),
+        }
+    }
 }

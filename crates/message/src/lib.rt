@@ -1,3 +1,3 @@
-// Handshake messages: the hellos so far.
+// Handshake messages: one type for all kinds.
 pub mod handshake;
-pub mod hellos;
+pub mod keyexchange;

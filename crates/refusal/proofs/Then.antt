@@ -3,7 +3,7 @@ use Prim.Native.Nat.{ℕ}
 use mathlib.Core.Path.{_≡_, refl}
 use mathlib.Core.Logic.{_⊎_, inl, inr}
 use native.Mathlib.Omega.{arith}
-use Rattle.refusal.specs.Answers.{Answer, accepted, refused, then}
+use Rattle.refusal.specs.Answers.{Answer, accepted, refused, then, within}
 use Rattle.refusal.specs.declared.Refusal.{Refusal}
 
 -- no answer is both
@@ -22,3 +22,7 @@ then-refused (refused r) k e = inl (let d : refused r ≡ refused _ = e in cc)
 pub either : {A : Type 0} (x : Answer A) → ((a : A) × (x ≡ accepted a)) ⊎ ((r : Refusal) × (x ≡ refused r))
 either (accepted a) = inl (a, refl)
 either (refused r) = inr (r, refl)
+
+pub within-accepted : {A : Type 0} (at : ℕ) (x : Answer A) {a : A} → within at x ≡ accepted a → x ≡ accepted a
+within-accepted at (accepted b) e = e
+within-accepted at (refused r) e = absurd (not-both e refl)

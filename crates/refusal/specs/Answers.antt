@@ -3,7 +3,7 @@
 use Prim.Native.Nat.{ℕ}
 use mathlib.Core.Path.{_≡_}
 use mathlib.Core.Option.{Option, none, some}
-use Rattle.refusal.specs.Refusals.{numberOf}
+use Rattle.refusal.specs.Refusals.{numberOf, inside}
 use Rattle.refusal.specs.declared.Refusal.{Refusal}
 
 pub data Answer (A : Type 0) : Type 0 where
@@ -28,3 +28,13 @@ TellSame x y = (numberIn x ≡ numberIn y) × (valuesIn x ≡ valuesIn y)
 abbrev pub then : {A B : Type 0} → Answer A → (A → Answer B) → Answer B
 then (accepted a) k = k a
 then (refused r) k = refused r
+
+-- the first where it is accepted, else the second
+abbrev pub orElse : {A : Type 0} → Answer A → Answer A → Answer A
+orElse (accepted a) y = accepted a
+orElse (refused r) y = y
+
+-- the answer of what lies inside a part that begins at a place
+abbrev pub within : {A : Type 0} → ℕ → Answer A → Answer A
+within at (accepted a) = accepted a
+within at (refused r) = refused (inside at r)

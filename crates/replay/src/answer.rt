@@ -3,6 +3,7 @@ use crate::text;
 use crate::text::RepeatAnswer;
 use norrabist::NumberAnswer;
 use norrabist::OptView;
+use norrabist::PartAnswer;
 use norrabist::Refusal;
 use norrabist::View;
 
@@ -17,7 +18,17 @@ pub enum Outcome {
     Ungiven,
     // a number is recorded where an item of a list is refused
     RefusedItem,
+    // a walk does not stop behind the last item
+    WalkGoesOn,
+    // a key exchange is taken apart that is recorded as it stands
+    NotRaw,
 }
+
+// The largest number: no part begins there.
+const NOWHERE: usize = 0xffff_ffff_ffff_ffff;
+
+// The number of the refusal of a place that a list does not have.
+const NO_SUCH: u8 = 11;
 
 pub struct Cursor {
     // where in the line the next word begins
@@ -27,6 +38,8 @@ pub struct Cursor {
     pub left: u64,
     // how many numbers were read
     pub count: u64,
+    // where in the input the bytes begin that views are counted in
+    pub base: usize,
     pub outcome: Outcome,
     // the two numbers of a difference
     pub recorded: u64,
@@ -45,6 +58,7 @@ pub fn start(at: usize) -> Cursor {
         value: 0,
         left: 0,
         count: 0,
+        base: 0,
         outcome: Outcome::Same,
         recorded: 0,
         given: 0,
@@ -57,6 +71,28 @@ pub fn up(n: u64) -> u64 {
         return n;
     }
     n + 1
+}
+
+// The sum of two places, as far as there is one.
+pub fn sum(a: usize, b: usize) -> usize {
+    if NOWHERE - a < b {
+        return NOWHERE;
+    }
+    a + b
+}
+
+// The place at which the rest of `all` bytes begins, of which `rest` are left.
+pub fn place_of_rest(all: usize, rest: usize) -> usize {
+    if all < rest {
+        return NOWHERE;
+    }
+    all - rest
+}
+
+// Views are counted from `base` on.
+pub fn within(mut c: Cursor, base: usize) -> Cursor {
+    c.base = base;
+    c
 }
 
 pub fn agrees(c: Cursor) -> bool {
@@ -124,6 +160,7 @@ fn differs(c: Cursor, outcome: Outcome, recorded: u64, given: u64) -> Cursor {
         value: c.value,
         left: c.left,
         count: c.count,
+        base: c.base,
         outcome,
         recorded,
         given,
@@ -158,7 +195,7 @@ pub fn expect_end(line: &[u8], c: Cursor) -> Cursor {
 }
 
 // The port refuses an item of a list.
-fn expect_refused_item(line: &[u8], c: Cursor, r: Refusal) -> Cursor {
+pub fn refused_item(line: &[u8], c: Cursor, r: Refusal) -> Cursor {
     let number = norrabist::refusal_number(r) as u64;
     if agrees(c) {
         return match read_number(line, c) {
@@ -167,6 +204,30 @@ fn expect_refused_item(line: &[u8], c: Cursor, r: Refusal) -> Cursor {
         };
     }
     c
+}
+
+// The port's answer is wrong in a way that no recorded number tells.
+pub fn wrong(c: Cursor, outcome: Outcome, given: u64) -> Cursor {
+    if agrees(c) {
+        return differs(c, outcome, 0, given);
+    }
+    c
+}
+
+// What a walk gives behind the last item: the refusal of a place that is not there.
+pub fn stopped(c: Cursor, r: Refusal) -> Cursor {
+    let number = norrabist::refusal_number(r);
+    if number == NO_SUCH {
+        return c;
+    }
+    wrong(c, Outcome::WalkGoesOn, number as u64)
+}
+
+pub fn stopped_part(c: Cursor, a: PartAnswer) -> Cursor {
+    match a {
+        PartAnswer::Refused(r) => stopped(c, r),
+        PartAnswer::Got(_) => wrong(c, Outcome::WalkGoesOn, 0),
+    }
 }
 
 pub fn number(line: &[u8], c: Cursor, n: usize) -> Cursor {
@@ -184,7 +245,7 @@ pub fn accepted(line: &[u8], c: Cursor, rest: usize) -> Cursor {
 }
 
 pub fn view(line: &[u8], c: Cursor, v: View) -> Cursor {
-    number(line, number(line, c, v.start), v.len)
+    number(line, number(line, c, sum(c.base, v.start)), v.len)
 }
 
 pub fn opt_view(line: &[u8], c: Cursor, v: OptView) -> Cursor {
@@ -196,7 +257,19 @@ pub fn opt_view(line: &[u8], c: Cursor, v: OptView) -> Cursor {
 
 pub fn item(line: &[u8], c: Cursor, a: NumberAnswer) -> Cursor {
     match a {
-        NumberAnswer::Refused(r) => expect_refused_item(line, c, r),
+        NumberAnswer::Refused(r) => refused_item(line, c, r),
         NumberAnswer::Got(n) => number(line, c, n.value),
     }
+}
+
+// An item of a list of parts, counted from the front of the list.
+pub fn part_item(line: &[u8], c: Cursor, list: View, v: View) -> Cursor {
+    view(
+        line,
+        c,
+        View {
+            start: sum(list.start, v.start),
+            len: v.len,
+        },
+    )
 }

@@ -1,9 +1,15 @@
 // Replays recorded readings of the crate (compare/README.md): runs the port on each line of standard input and compares every number
 // of its answer with the recorded one.
 mod answer;
+mod body_values;
 mod case;
-mod hellos;
+mod cert_values;
+mod contents;
+mod hello_values;
+mod messages;
 mod names;
+mod records;
+mod run;
 mod tell;
 mod text;
 
@@ -12,30 +18,13 @@ use case::Case;
 use case::CaseAnswer;
 use case::Fault;
 use libc::STDIN_FILENO;
+use run::Ran;
 
 // So many differences are told in full, and as many bad lines.
 const TOLD: u64 = 20;
 
 // More chunks than any input has.
 const CHUNKS: u64 = 0x1_0000_0000_0000;
-
-enum Ran {
-    NotYet,
-    Done(Cursor),
-}
-
-// Runs the function of a case by its row (names.rt): a function of the port has its line here.
-fn run(case: Case, line: &[u8], i: &[u8]) -> Ran {
-    let row = case.row;
-    let c = answer::start(case.answer);
-    match row {
-        5 => Ran::Done(hellos::client_hello(line, c, i)),
-        6 => Ran::Done(hellos::msg_client_hello(line, c, i)),
-        7 => Ran::Done(hellos::server_hello(line, c, i)),
-        8 => Ran::Done(hellos::msg_server_hello(line, c, i)),
-        _ => Ran::NotYet,
-    }
-}
 
 // Where the stream stands, and what was met in it.
 struct State {
@@ -84,7 +73,7 @@ fn replay(
     mut s: State,
 ) -> State {
     let row = case.row;
-    let Ran::Done(ran) = run(case, line, input) else {
+    let Ran::Done(ran) = run::run(case, line, input) else {
         s.not_run = answer::up(s.not_run);
         return s;
     };

@@ -44,6 +44,8 @@ fn say_recorded(c: Cursor) {
     say(b"recorded ");
     match outcome {
         Outcome::Unrecorded => say(b"nothing"),
+        Outcome::WalkGoesOn => say(b"no more items"),
+        Outcome::NotRaw => say(b"a raw part"),
         _ => say_number(c.recorded),
     }
 }
@@ -57,6 +59,11 @@ fn say_given(c: Cursor) {
             say(b"a refusal, ");
             say_number(c.given);
         }
+        Outcome::WalkGoesOn => {
+            say(b"a walk that does not stop there, ");
+            say_number(c.given);
+        }
+        Outcome::NotRaw => say(b"another"),
         _ => say_number(c.given),
     }
 }

@@ -1,5 +1,7 @@
 // A part of the caller's own bytes, named by numbers.
 ghost use mathlib.Core.Path.{_≡_};
+ghost use Prim.Native.Nat.{_+_};
+ghost use lib.ListN.{drop};
 ghost use Rattle.wire.specs.Parts.{optPartOf, partAt, partOf, partSays};
 use refusal::Reason;
 use refusal::Refusal;
@@ -50,6 +52,24 @@ pub fn opt_part_of(body: &[u8], v: OptView) -> &[u8]
         OptView::Absent => &body[..0],
         OptView::Present(p) => part_of(body, p),
     }
+}
+
+// The bytes from `at` on; none where that lies outside.
+pub fn rest_of(s: &[u8], at: usize) -> &[u8]
+    ensures { λ r. ⌜ now r ≡ drop at (now (s .entry)) ⌝ }
+{
+    if s.len() < at {
+        return &s[..0];
+    }
+    &s[at..]
+}
+
+// The bytes behind the part that `v` names; none where that lies outside.
+pub fn behind(s: &[u8], v: View) -> &[u8]
+    ensures { λ r. ⌜ now r ≡ drop (v .start + v .len) (now (s .entry)) ⌝ }
+{
+    let rest = rest_of(s, v.start);
+    rest_of(rest, v.len)
 }
 
 // The `n` bytes from `at` on, or the refusal `past` where they run past the end.

@@ -10,12 +10,13 @@ use Rattle.wire.specs.Numbers.{bytesIn}
 use Rattle.wire.specs.Parts.{partSays}
 use Rattle.wire.proofs.Numbers.{width-bounds}
 use Rattle.list.specs.Items.{item, items, place}
-use Rattle.list.proofs.Walk.{rest, first, next, past, item-got, item-none}
+use Rattle.list.proofs.Walk.{next, past-last}
+use Rattle.list.proofs.Fields.{left, by-steps, item-got, item-none, item-first}
 use Rattle.list.proofs.items.item_at.Statement.{statement}
 use Rattle.list.proofs.items.item_at.Tie as tie
 
 abbrev Inv-loop : tie.InvT-loop
-Inv-loop s w at from₀ k₀ from k = (k ≤ at) × (place at (items (item (bytesIn w)) s) ≡ place (at - k) (rest (item (bytesIn w)) s from))
+Inv-loop s w at from₀ k₀ from k = (k ≤ at) × (place at (items (item (bytesIn w)) s) ≡ place (at - k) (left (item (bytesIn w)) s from))
 
 abbrev μ-loop : tie.MeasureT-loop
 μ-loop s w at from₀ k₀ from k = at - k
@@ -33,7 +34,7 @@ returns : tie.Need-returns Inv-loop μ-loop
 returns c =
     let l = c .before .before .before .before .before in
     let e = item-none _ _ _ (case partSays (c .before .before .before .item-from .ensures) (c .before .r .given .1)) in
-    ap refused (e .2) ∙ sym (l .loop .inv .1 ∙ past _ (width-bounds (l .before .before .args .w) .0) _ (l .loop .from) _ (e .1))
+    ap refused (e .2) ∙ sym (l .loop .inv .1 ∙ past-last (by-steps _ (width-bounds (l .before .before .args .w) .0) _) (l .loop .from) _ (e .1))
 
 enum-known-p : tie.Need-enum-known-p Inv-loop μ-loop
 enum-known-p c = search needs
@@ -48,7 +49,7 @@ loop-again : tie.Need-loop-again Inv-loop μ-loop
 loop-again c =
     let l = c .before .before .before .before .before in
     let e = item-got _ _ _ (case partSays (c .before .before .before .item-from .ensures) (c .before .p .given .1)) in
-    (omega arith, l .loop .inv .1 ∙ next _ (width-bounds (l .before .before .args .w) .0) _ (l .loop .from) _ (l .loop .k) (omega arith) e)
+    (omega arith, l .loop .inv .1 ∙ next (by-steps _ (width-bounds (l .before .before .args .w) .0) _) (l .loop .from) _ (l .loop .k) (omega arith) e)
 
 item-from-requires-2 : tie.Need-item-from-requires-2 Inv-loop μ-loop
 item-from-requires-2 c κs = search needs
@@ -58,7 +59,7 @@ returns-2 c =
     let l = c .before .before in
     let a = l .before .before .args in
     let z : a .at - l .loop .k ≡ 0 = omega arith in
-    c .item-from2 .ensures ∙ sym (l .loop .inv .1 ∙ rw z (first _ (width-bounds (a .w) .0) _ (l .loop .from)))
+    c .item-from2 .ensures ∙ sym (l .loop .inv .1 ∙ rw z (item-first _ (width-bounds (a .w) .0) _ (l .loop .from)))
 
 pub item-at-spec : {M : Type 1} → statement M
 item-at-spec =

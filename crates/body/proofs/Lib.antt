@@ -1,0 +1,2 @@
+pub mod Tickets
+pub mod Whole

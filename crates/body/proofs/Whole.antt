@@ -1,0 +1,80 @@
+-- What demand 3 says of the hellos, of these bodies, instances of the one theorem, and the ticket by the length given; and equal numbers and
+-- values mean equal answers. Assumes nothing.
+use Prim.Native.Nat.{ℕ}
+use mathlib.Core.Path.{_≡_, refl, _∙_}
+use mathlib.Core.List.{List}
+use native.Mathlib.Omega.{arith}
+use Rattle.refusal.specs.Answers.{Answer, accepted, refused, TellSame}
+use Rattle.refusal.proofs.Told.{tells-all}
+use Rattle.wire.specs.Numbers.{Bytes}
+use Rattle.field.specs.Fields.{fixed}
+use Rattle.field.proofs.Steps.{step-lacks}
+use Rattle.grammar.proofs.Forms.{Lawful, by-split}
+use Rattle.body.specs.Retry.{retry, retrySays}
+use Rattle.body.specs.Ticket.{ticket, ticketSays}
+use Rattle.body.specs.NextProtocol.{nextProtocol, nextProtocolSays}
+use Rattle.body.specs.Bodies.{OfTicket, AllBodies}
+use Rattle.body.specs.declared.retry.TlsHelloRetryRequestContents.{TlsHelloRetryRequestContents}
+use Rattle.body.specs.declared.retry.HelloRetryRequestAnswer.{HelloRetryRequestAnswer}
+use Rattle.body.specs.declared.ticket.TlsNewSessionTicketContent.{TlsNewSessionTicketContent}
+use Rattle.body.specs.declared.ticket.NewSessionTicketAnswer.{NewSessionTicketAnswer}
+use Rattle.body.specs.declared.next_protocol.TlsNextProtocolContent.{TlsNextProtocolContent}
+use Rattle.body.specs.declared.next_protocol.NextProtocolAnswer.{NextProtocolAnswer}
+use Rattle.body.proofs.Tickets.{under-4, past-end, by-form, fixed-in, form-whole}
+
+retry-lawful : Lawful retry
+retry-lawful = record { suits = (refl, (refl, tt)); handed = λ o e t. refl; block = λ o e t. refl; tail = λ o e t. refl }
+
+ticket-lawful : (n : ℕ) → Lawful (ticket n)
+ticket-lawful n = record { suits = (refl, (tt, tt)); handed = λ o e t. refl; block = λ o e t. refl; tail = λ o e t. refl }
+
+next-protocol-lawful : Lawful nextProtocol
+next-protocol-lawful = record { suits = (tt, (tt, tt)); handed = λ o e t. refl; block = λ o e t. refl; tail = λ o e t. refl }
+
+of-ticket : (n : ℕ) (s : List ℕ) → Bytes s → OfTicket n s
+of-ticket n s b = record {
+  under4 = under-4 n s;
+  short = λ h r f. past-end n s h (step-lacks (fixed n) s 0 r (omega arith) f);
+  whole = λ h i. by-form n s h (fixed-in n s 0 (omega arith)) ∙ form-whole n s h i;
+  byForm = λ h i. (by-form n s h (fixed-in n s 0 (omega arith)), by-split (ticket n) (ticket-lawful n) s b);
+}
+
+pub all-bodies : AllBodies
+all-bodies s b = record {
+  ofRetry = by-split retry retry-lawful s b;
+  ofTicket = λ n. of-ticket n s b;
+  ofNextProtocol = by-split nextProtocol next-protocol-lawful s b;
+}
+
+abbrev retry-back : Answer TlsHelloRetryRequestContents → HelloRetryRequestAnswer
+retry-back (accepted a) = HelloRetryRequestAnswer.Got a
+retry-back (refused r) = HelloRetryRequestAnswer.Refused r
+
+retry-home : (a : HelloRetryRequestAnswer) → retry-back (retrySays a) ≡ a
+retry-home (HelloRetryRequestAnswer.Refused r) = refl
+retry-home (HelloRetryRequestAnswer.Got a) = refl
+
+pub one-retry : (x y : HelloRetryRequestAnswer) → TellSame (retrySays x) (retrySays y) → x ≡ y
+one-retry = tells-all retrySays retry-back retry-home
+
+abbrev ticket-back : Answer TlsNewSessionTicketContent → NewSessionTicketAnswer
+ticket-back (accepted a) = NewSessionTicketAnswer.Got a
+ticket-back (refused r) = NewSessionTicketAnswer.Refused r
+
+ticket-home : (a : NewSessionTicketAnswer) → ticket-back (ticketSays a) ≡ a
+ticket-home (NewSessionTicketAnswer.Refused r) = refl
+ticket-home (NewSessionTicketAnswer.Got a) = refl
+
+pub one-ticket : (x y : NewSessionTicketAnswer) → TellSame (ticketSays x) (ticketSays y) → x ≡ y
+one-ticket = tells-all ticketSays ticket-back ticket-home
+
+abbrev next-protocol-back : Answer TlsNextProtocolContent → NextProtocolAnswer
+next-protocol-back (accepted a) = NextProtocolAnswer.Got a
+next-protocol-back (refused r) = NextProtocolAnswer.Refused r
+
+next-protocol-home : (a : NextProtocolAnswer) → next-protocol-back (nextProtocolSays a) ≡ a
+next-protocol-home (NextProtocolAnswer.Refused r) = refl
+next-protocol-home (NextProtocolAnswer.Got a) = refl
+
+pub one-next-protocol : (x y : NextProtocolAnswer) → TellSame (nextProtocolSays x) (nextProtocolSays y) → x ≡ y
+one-next-protocol = tells-all nextProtocolSays next-protocol-back next-protocol-home

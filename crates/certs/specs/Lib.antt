@@ -1,0 +1,4 @@
+pub mod Certificate
+pub mod Request
+pub mod Status
+pub mod Bodies

@@ -1,0 +1,46 @@
+-- Where a message that was met lies: its body behind four bytes, and both within the bytes. Assumes nothing.
+use Prim.Native.Nat.{ℕ, _+_, _≤_}
+use mathlib.Core.Path.{_≡_}
+use mathlib.Core.List.{List}
+use native.Mathlib.Omega.{arith}
+use lib.ListN.{length}
+use Rattle.refusal.specs.Answers.{accepted, then, within}
+use Rattle.refusal.proofs.Then.{then-accepted, within-accepted}
+use Rattle.wire.specs.Numbers.{numberAt}
+use Rattle.wire.specs.Parts.{partOf}
+use Rattle.wire.proofs.Numbers.{number-is}
+use Rattle.field.specs.Fields.{ruleOf, step}
+use Rattle.field.specs.declared.Kind.the-variants.{Plain}
+use Rattle.field.proofs.Rules.{counted-lies}
+use Rattle.list.specs.Items.{item}
+use Rattle.message.specs.declared.handshake.TlsMessageHandshake.{TlsMessageHandshake}
+use Rattle.envelope.specs.Heads.{headAt}
+use Rattle.envelope.specs.Opening.{Met, metAt, byType}
+use Rattle.envelope.specs.declared.TlsMessageHead.{TlsMessageHead}
+
+pub record Lies (s : List ℕ) (at : ℕ) (h : TlsMessageHead) : Type 0 where
+  pub start : h .body .start ≡ at + 4
+  pub next : h .next ≡ at + 4 + h .body .len
+  pub inside : h .next ≤ length s
+
+pub head-lies : (s : List ℕ) (at : ℕ) {h : TlsMessageHead} → headAt s at ≡ accepted h → Lies s at h
+unfolding headAt
+head-lies s at {h} e =
+    let t = then-accepted (numberAt 1 s at) (λ k. then (step (item 3) s (k .next)) (λ b. accepted (record { kind = k .value; body = b .view; next = b .next }))) e in
+    let n = number-is 1 s at (t .1) in
+    let u = then-accepted (step (item 3) s (t .0 .next)) (λ b. accepted (record { kind = t .0 .value; body = b .view; next = b .next })) (t .2) in
+    let i = counted-lies 3 (ruleOf Plain) s (t .0 .next) (u .1) in
+    let d : record { kind = t .0 .value; body = u .0 .view; next = u .0 .next } ≡ h = cc (u .2) in
+    let z : t .0 .next ≡ at + 1 = rw (n .is) in
+    rw (← d) (record { start = omega (arith, i .start, z); next = omega (arith, i .next, z); inside = i .inside })
+
+pub met-head : (s : List ℕ) (at : ℕ) {x : Met} → metAt s at ≡ accepted x → headAt s at ≡ accepted (x .head)
+unfolding metAt
+met-head s at {x} e =
+    let t = then-accepted (headAt s at) (λ h. within (h .body .start) (then (byType (h .kind) (partOf s (h .body))) (λ m. accepted (record { head = h; says = m })))) e in
+    let u = then-accepted (byType (t .0 .kind) (partOf s (t .0 .body))) (λ (m : TlsMessageHandshake). accepted (record { head = t .0; says = m })) (within-accepted (t .0 .body .start) _ (t .2)) in
+    let d : record { head = t .0; says = u .0 } ≡ x = cc (u .2) in
+    rw (← d) (t .1)
+
+pub met-lies : (s : List ℕ) (at : ℕ) {x : Met} → metAt s at ≡ accepted x → Lies s at (x .head)
+met-lies s at e = head-lies s at (met-head s at e)

@@ -1,0 +1,94 @@
+// A handshake message: its head, what its type opens, and both.
+ghost use mathlib.Core.Path.{_≡_};
+ghost use Rattle.envelope.specs.Heads.{headAt, headSays};
+ghost use Rattle.envelope.specs.Opening.{byType, message};
+ghost use Rattle.message.specs.Messages.{messageSays};
+use field::Kind;
+use message::handshake::MessageAnswer;
+use message::handshake::TlsMessageHandshake;
+use refusal::Reason;
+use refusal::Refusal;
+use wire::number::NumberAnswer;
+use wire::number::Width;
+use wire::view::PartAnswer;
+use wire::view::View;
+
+// The type, where the body lies, and the place past it.
+pub struct TlsMessageHead {
+    pub kind: u8,
+    pub body: View,
+    pub next: usize,
+}
+
+pub enum HeadAnswer {
+    Refused(Refusal),
+    Got(TlsMessageHead),
+}
+
+// The head of the message that begins at `at`: length and body are taken, and the type is not looked at.
+pub fn parse_tls_message_head(s: &[u8], at: usize) -> HeadAnswer
+    ensures { λ r. ⌜ headSays r ≡ headAt (now (s .entry)) at ⌝ }
+{
+    let kind = match wire::number::parse_be(s, at, Width::One) {
+        NumberAnswer::Refused(r) => {
+            return HeadAnswer::Refused(r);
+        }
+        NumberAnswer::Got(n) => n,
+    };
+    let body = match field::length_data(s, kind.next, Width::Three, Kind::Plain) {
+        PartAnswer::Refused(r) => {
+            return HeadAnswer::Refused(r);
+        }
+        PartAnswer::Got(p) => p,
+    };
+    let view = body.view;
+    HeadAnswer::Got(TlsMessageHead {
+        kind: kind.value as u8,
+        body: view,
+        next: body.next,
+    })
+}
+
+// The body of a message of a type, opened.
+pub fn parse_tls_handshake_body(kind: u8, body: &[u8]) -> MessageAnswer
+    ensures { λ r. ⌜ messageSays r ≡ byType kind (now (body .entry)) ⌝ }
+{
+    let len = body.len();
+    match kind {
+        0x00 => hellos::parse_tls_handshake_msg_hello_request(body),
+        0x01 => hellos::parse_tls_handshake_msg_client_hello(body),
+        0x02 => hellos::parse_tls_handshake_msg_server_hello(body),
+        0x04 => bodies::parse_tls_handshake_msg_newsessionticket(body, len),
+        0x05 => MessageAnswer::Got(TlsMessageHandshake::EndOfEarlyData),
+        0x06 => hellos::parse_tls_handshake_msg_hello_retry_request(body),
+        0x0b => bodies::parse_tls_handshake_msg_certificate(body),
+        0x0c => opaque::parse_tls_handshake_msg_serverkeyexchange(body, len),
+        0x0d => bodies::parse_tls_handshake_msg_certificaterequest(body),
+        0x0e => opaque::parse_tls_handshake_msg_serverdone(body, len),
+        0x0f => opaque::parse_tls_handshake_msg_certificateverify(body, len),
+        0x10 => opaque::parse_tls_handshake_msg_clientkeyexchange(body, len),
+        0x14 => opaque::parse_tls_handshake_msg_finished(body, len),
+        0x16 => bodies::parse_tls_handshake_msg_certificatestatus(body),
+        0x18 => bodies::parse_tls_handshake_msg_key_update(body),
+        0x43 => bodies::parse_tls_handshake_msg_next_protocol(body),
+        0x03 | 0x07..=0x0a | 0x11..=0x13 | 0x15 | 0x17 | 0x19..=0x42 | 0x44..=0xff =>
+            MessageAnswer::Refused(refusal::refuse(Reason::Switch, 0, 0)),
+    }
+}
+
+// The message at the front; its views are of its body, and `parse_tls_message_head` tells where that lies and where the rest begins.
+pub fn parse_tls_message_handshake(i: &[u8]) -> MessageAnswer
+    ensures { λ r. ⌜ messageSays r ≡ message (now (i .entry)) ⌝ }
+{
+    let head = match parse_tls_message_head(i, 0) {
+        HeadAnswer::Refused(r) => {
+            return MessageAnswer::Refused(r);
+        }
+        HeadAnswer::Got(h) => h,
+    };
+    let view = head.body;
+    match parse_tls_handshake_body(head.kind, wire::view::part_of(i, view)) {
+        MessageAnswer::Refused(r) => MessageAnswer::Refused(refusal::inside(r, view.start)),
+        MessageAnswer::Got(m) => MessageAnswer::Got(m),
+    }
+}

@@ -1,0 +1,63 @@
+// The bodies of hellos and of what asks for one, opened as messages.
+ghost use mathlib.Core.Path.{_≡_};
+ghost use Rattle.hellos.specs.Hellos.{clientMessage, helloRequestMessage, retryMessage, serverMessage};
+ghost use Rattle.message.specs.Messages.{messageSays};
+use body::retry::HelloRetryRequestAnswer;
+use client::ClientHelloAnswer;
+use message::handshake::MessageAnswer;
+use message::handshake::TlsMessageHandshake;
+use server::tlsv12::ServerHelloAnswer;
+use server::tlsv13draft18::Draft18Answer;
+use wire::number::NumberAnswer;
+use wire::number::Width;
+
+// Any body.
+pub fn parse_tls_handshake_msg_hello_request(i: &[u8]) -> MessageAnswer
+    ensures { λ r. ⌜ messageSays r ≡ helloRequestMessage (now (i .entry)) ⌝ }
+{
+    MessageAnswer::Got(TlsMessageHandshake::HelloRequest)
+}
+
+pub fn parse_tls_handshake_msg_client_hello(i: &[u8]) -> MessageAnswer
+    ensures { λ r. ⌜ messageSays r ≡ clientMessage (now (i .entry)) ⌝ }
+{
+    match client::parse_tls_handshake_client_hello(i) {
+        ClientHelloAnswer::Refused(r) => MessageAnswer::Refused(r),
+        ClientHelloAnswer::Got(c) => MessageAnswer::Got(TlsMessageHandshake::ClientHello(c)),
+    }
+}
+
+// At 0x7f12 the draft 18 hello, which `parse_tls_handshake_server_hello` does not open.
+pub fn parse_tls_handshake_msg_server_hello(i: &[u8]) -> MessageAnswer
+    ensures { λ r. ⌜ messageSays r ≡ serverMessage (now (i .entry)) ⌝ }
+{
+    let version = match wire::number::parse_be(i, 0, Width::Two) {
+        NumberAnswer::Refused(r) => {
+            return MessageAnswer::Refused(r);
+        }
+        NumberAnswer::Got(n) => n,
+    };
+    if version.value == 0x7f12 {
+        return match server::tlsv13draft18::parse_tls_server_hello_tlsv13draft18(i) {
+            Draft18Answer::Refused(r) => MessageAnswer::Refused(r),
+            Draft18Answer::Got(c) => {
+                MessageAnswer::Got(TlsMessageHandshake::ServerHelloV13Draft18(c))
+            }
+        };
+    }
+    match server::tlsv12::parse_tls_handshake_server_hello(i) {
+        ServerHelloAnswer::Refused(r) => MessageAnswer::Refused(r),
+        ServerHelloAnswer::Got(c) => MessageAnswer::Got(TlsMessageHandshake::ServerHello(c)),
+    }
+}
+
+pub fn parse_tls_handshake_msg_hello_retry_request(i: &[u8]) -> MessageAnswer
+    ensures { λ r. ⌜ messageSays r ≡ retryMessage (now (i .entry)) ⌝ }
+{
+    match body::retry::parse_tls_hello_retry_request(i) {
+        HelloRetryRequestAnswer::Refused(r) => MessageAnswer::Refused(r),
+        HelloRetryRequestAnswer::Got(c) => {
+            MessageAnswer::Got(TlsMessageHandshake::HelloRetryRequest(c))
+        }
+    }
+}

@@ -1,0 +1,35 @@
+-- The walk over the items of a field: a step finds an item of at least a byte. Assumes nothing.
+use Prim.Native.Nat.{ℕ, _≤_}
+use mathlib.Core.Path.{_≡_}
+use mathlib.Core.List.{List}
+use native.Mathlib.Omega.{arith}
+use lib.ListN.{length}
+use Rattle.refusal.specs.Answers.{accepted, refused}
+use Rattle.refusal.specs.Refusals.{refusal}
+use Rattle.refusal.specs.declared.Reason.the-variants.{NoSuch}
+use Rattle.refusal.specs.declared.Refusal.{Refusal}
+use Rattle.wire.specs.declared.view.Part.{Part}
+use Rattle.field.specs.Fields.{Field, step}
+use Rattle.field.proofs.Rules.{least, step-in}
+use Rattle.list.specs.Items.{itemFrom, place}
+use Rattle.list.proofs.Walk.{Moves, rest, got, none, first}
+
+abbrev pub left : Field → List ℕ → ℕ → List Part
+left f s at = rest (step f s) (λ (p : Part). p .next) (length s) at
+
+pub by-steps : (f : Field) → 1 ≤ least f → (s : List ℕ) → Moves (step f s) (λ (p : Part). p .next) (length s)
+by-steps f one s = record { on = λ at p e. let i = step-in f s at e in (omega arith, i .1) }
+
+-- what an item's answer says of the step
+pub item-got : (f : Field) (s : List ℕ) (at : ℕ) {p : Part} → itemFrom f s at ≡ accepted p → step f s at ≡ accepted p
+unfolding itemFrom
+item-got f s at e = got (step f s at) e
+
+pub item-none : (f : Field) (s : List ℕ) (at : ℕ) {r : Refusal} → itemFrom f s at ≡ refused r → (x : Refusal) × (step f s at ≡ refused x) × (r ≡ refusal NoSuch 0 0)
+unfolding itemFrom
+item-none f s at e = none (step f s at) e
+
+-- the first of what is left is the item that begins there
+pub item-first : (f : Field) → 1 ≤ least f → (s : List ℕ) (at : ℕ) → place 0 (left f s at) ≡ itemFrom f s at
+unfolding itemFrom
+item-first f one s at = first (by-steps f one s) at

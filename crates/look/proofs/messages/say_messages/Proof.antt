@@ -1,0 +1,50 @@
+-- `say_messages` is safe and ends: each turn leaves one message less. Assumes nothing.
+use Prim.Native.Nat.{_-_}
+use borrow.Author.Needs.{needs}
+use Rattle.look.proofs.messages.say_messages.Statement.{statement}
+use Rattle.look.proofs.messages.say_messages.Tie as tie
+
+abbrev Inv-loop : tie.InvT-loop
+Inv-loop content count dropped at walk₀ k₀ walk k = Unit
+
+abbrev μ-loop : tie.MeasureT-loop
+μ-loop content count dropped at walk₀ k₀ walk k = count - k
+
+new-requires : tie.Need-new-requires Inv-loop μ-loop
+new-requires c κs = search needs
+
+loop-holds : tie.Need-loop-holds Inv-loop μ-loop
+loop-holds c = search needs
+
+say-message-requires : tie.Need-say-message-requires Inv-loop μ-loop
+say-message-requires c κs = search needs
+
+add-k : tie.Need-add-k Inv-loop μ-loop
+add-k c = search needs
+
+loop-less : tie.Need-loop-less Inv-loop μ-loop
+loop-less c = search needs
+
+loop-again : tie.Need-loop-again Inv-loop μ-loop
+loop-again c = search needs
+
+say-dropped-requires : tie.Need-say-dropped-requires Inv-loop μ-loop
+say-dropped-requires c κs = search needs
+
+returns : tie.Need-returns Inv-loop μ-loop
+returns c = search needs
+
+pub say-messages-spec : {M : Type 1} → statement M
+say-messages-spec =
+    tie.close
+    (tie.spec
+    Inv-loop
+    μ-loop
+    new-requires
+    loop-holds
+    say-message-requires
+    add-k
+    loop-less
+    loop-again
+    say-dropped-requires
+    returns)

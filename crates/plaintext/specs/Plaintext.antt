@@ -1,0 +1,48 @@
+-- The plaintext record: document 01, "Records".
+use Prim.Native.Nat.{ℕ}
+use mathlib.Core.List.{List}
+use lib.ListN.{length}
+use lib.Dec.{eqb, ltb}
+use Rattle.refusal.specs.Answers.{Answer, accepted, refused, then}
+use Rattle.refusal.specs.Refusals.{numberOf, refusal, inside}
+use Rattle.refusal.specs.declared.Reason.the-variants.{Complete, Switch, Elsewhere}
+use Rattle.refusal.specs.declared.Refusal.{Refusal}
+use Rattle.wire.specs.Parts.{pick, partOf}
+use Rattle.grammar.specs.Forms.{reading}
+use Rattle.envelope.specs.Opening.{metAt}
+use Rattle.record.specs.Records.{raw}
+use Rattle.walk.specs.Walks.{messages, dropped}
+use Rattle.record.specs.declared.TlsRawRecord.{TlsRawRecord}
+use Rattle.plaintext.specs.declared.TlsPlaintext.{TlsPlaintext}
+use Rattle.plaintext.specs.declared.PlaintextAnswer.{PlaintextAnswer}
+use Rattle.plaintext.specs.declared.PlaintextAnswer.the-variants.{Refused, Got}
+
+-- "Incomplete from the first message becomes Complete, its other refusals stay", in content that begins at a place
+abbrev pub firstRefusal : ℕ → Refusal → Refusal
+firstRefusal at r = pick (eqb (numberOf (r .reason)) 1) (refusal Complete at 0) (inside at r)
+
+abbrev pub ifFirst : {A B : Type 0} → ℕ → Answer A → B → Answer B
+ifFirst at (accepted x) b = accepted b
+ifFirst at (refused r) b = refused (firstRefusal at r)
+
+-- "A handshake record must open at least one message": the record with its content
+unfoldable pub handshakes : TlsRawRecord → List ℕ → Answer TlsPlaintext
+handshakes r content =
+    ifFirst (r .«data» .start) (metAt content 0)
+    (record { hdr = r .hdr; msg = r .«data»; count = length (messages content); dropped = dropped content; next = r .next })
+
+-- by the record's type: 0x16 is opened; "Types outside 0x14 to 0x18 are Switch"; the others, 0x14, 0x15, 0x17 and 0x18, are Elsewhere
+unfoldable pub byRecordType : ℕ → TlsRawRecord → List ℕ → Answer TlsPlaintext
+byRecordType t r content =
+    pick (eqb t 0x16) (handshakes r content)
+    (pick (ltb t 0x14) (refused (refusal Switch 0 0))
+    (pick (ltb 0x18 t) (refused (refusal Switch 0 0))
+    (refused (refusal Elsewhere 0 0))))
+
+unfoldable pub plaintext : List ℕ → Answer TlsPlaintext
+plaintext s = then (reading raw s) (λ r. byRecordType (r .hdr .«record_type») r (partOf s (r .«data»)))
+
+-- as an `Answer`, which has the paper's number and the values
+abbrev pub plaintextSays : PlaintextAnswer → Answer TlsPlaintext
+plaintextSays (Refused r) = refused r
+plaintextSays (Got x) = accepted x

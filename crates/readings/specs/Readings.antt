@@ -1,0 +1,106 @@
+-- Document 01, "Readings to keep on the bench": the rows that are proved, in one table under one claim. Shown by `proofs/Rows.antt`.
+use Prim.Native.Nat.{ℕ}
+use mathlib.Core.Path.{_≡_}
+use mathlib.Core.List.{List, [], _∷_, _++_}
+use mathlib.Core.Option.{Option, none, some}
+use lib.ListN.{replicate}
+use Rattle.refusal.specs.Answers.{Answer, accepted, then, numberIn, valuesIn}
+use Rattle.wire.specs.Parts.{partOf}
+use Rattle.wire.specs.declared.view.OptView.{OptView}
+use Rattle.wire.specs.declared.view.OptView.the-variants.{Absent, Present}
+use Rattle.grammar.specs.Forms.{reading}
+use Rattle.list.specs.Items.{place}
+use Rattle.client.specs.Client.{client}
+use Rattle.client.specs.declared.TlsClientHelloContents.{TlsClientHelloContents}
+use Rattle.message.specs.declared.handshake.TlsMessageHandshake.{TlsMessageHandshake}
+use Rattle.message.specs.declared.handshake.TlsMessageHandshake.the-variants.{HelloRequest}
+use Rattle.envelope.specs.Opening.{message}
+use Rattle.walk.specs.Walks.{messages}
+use Rattle.plaintext.specs.Plaintext.{plaintext}
+use Rattle.plaintext.specs.declared.TlsPlaintext.{TlsPlaintext}
+
+-- what the input is read as: a ClientHello body, a message, a record, or the message at a place of a record
+pub data Call : Type 0 where
+  asClientHello : Call
+  asMessage : Call
+  asRecord : Call
+  asMessageAt : ℕ → Call
+
+abbrev pub Value : Call → Type 0
+Value asClientHello = TlsClientHelloContents
+Value asMessage = TlsMessageHandshake
+Value asRecord = TlsPlaintext
+Value (asMessageAt k) = TlsMessageHandshake
+
+abbrev pub answer : (c : Call) → List ℕ → Answer (Value c)
+answer asClientHello s = reading client s
+answer asMessage s = message s
+answer asRecord s = plaintext s
+answer (asMessageAt k) s = then (plaintext s) (λ p. then (place k (messages (partOf s (p .msg)))) (λ x. accepted (x .says)))
+
+-- an input, how it is read, the paper's number and the values
+pub record Row : Type 0 where
+  pub call : Call
+  pub input : List ℕ
+  pub number : ℕ
+  pub values : Option (Value call)
+
+abbrev pub accept : (c : Call) → List ℕ → Value c → Row
+accept c s v = record { call = c; input = s; number = 0; values = some v }
+
+abbrev pub reject : Call → List ℕ → ℕ → Row
+reject c s n = record { call = c; input = s; number = n; values = none }
+
+-- `0303 Z`, Z being 32 zero bytes, and what follows
+abbrev pub from0303Z : List ℕ → List ℕ
+from0303Z rest = 0x03 ∷ 0x03 ∷ (replicate 32 0 ++ rest)
+
+-- H and what follows: `0303 Z 00 0000 00`, 38 bytes
+abbrev pub H : List ℕ → List ℕ
+H rest = from0303Z (0x00 ∷ 0x00 ∷ 0x00 ∷ 0x00 ∷ rest)
+
+-- what is handed out of H: all lists empty
+abbrev pub allEmpty : OptView → ℕ → TlsClientHelloContents
+allEmpty ext tail = record {
+  version = 0x0303;
+  random = record { start = 2; len = 32 };
+  «session_id» = Absent;
+  ciphers = record { start = 37; len = 0 };
+  comp = record { start = 38; len = 0 };
+  ext = ext;
+  tail = tail;
+}
+
+-- a message of five bytes in a record: the record of row 13
+abbrev pub row13 : List ℕ
+row13 = 0x16 ∷ 0x03 ∷ 0x03 ∷ 0x00 ∷ 0x05 ∷ 0x00 ∷ 0x00 ∷ 0x00 ∷ 0x00 ∷ 0x01 ∷ []
+
+-- rows 1 to 6, 8 (also with the length 0002), 9 to 13
+unfoldable pub rows : List Row
+rows =
+    reject asClientHello [] 1
+    ∷ accept asClientHello (H []) (allEmpty Absent 38)
+    ∷ accept asClientHello (H (0x00 ∷ [])) (allEmpty Absent 38)
+    ∷ accept asClientHello (H (0x00 ∷ 0x00 ∷ [])) (allEmpty (Present (record { start = 40; len = 0 })) 40)
+    ∷ accept asClientHello (H (0x00 ∷ 0x01 ∷ [])) (allEmpty Absent 38)
+    ∷ reject asClientHello (from0303Z (0x21 ∷ [])) 3
+    ∷ reject asClientHello (from0303Z (0x00 ∷ 0x00 ∷ 0x01 ∷ 0x00 ∷ [])) 4
+    ∷ reject asClientHello (from0303Z (0x00 ∷ 0x00 ∷ 0x02 ∷ 0x00 ∷ [])) 4
+    ∷ reject asClientHello (from0303Z (0x00 ∷ 0x00 ∷ 0x00 ∷ 0x01 ∷ [])) 4
+    ∷ reject asMessage (0x03 ∷ 0x00 ∷ 0x00 ∷ 0x00 ∷ []) 6
+    ∷ reject asMessage (0x03 ∷ 0x00 ∷ 0x00 ∷ 0x01 ∷ []) 1
+    ∷ reject asMessage (0x01 ∷ 0x00 ∷ 0x00 ∷ 0x00 ∷ []) 1
+    ∷ reject asRecord (0x16 ∷ 0x03 ∷ 0x01 ∷ 0x00 ∷ 0x04 ∷ 0x01 ∷ 0x00 ∷ 0x00 ∷ 0x00 ∷ []) 2
+    ∷ reject asRecord (0x16 ∷ 0x03 ∷ 0x01 ∷ 0x41 ∷ 0x01 ∷ []) 7
+    ∷ reject asRecord (0x16 ∷ 0x03 ∷ 0x01 ∷ 0x41 ∷ 0x00 ∷ []) 1
+    ∷ accept asRecord row13 (record { hdr = record { «record_type» = 0x16; version = 0x0303; len = 5 }; msg = record { start = 5; len = 5 }; count = 1; dropped = 1; next = 10 })
+    ∷ accept (asMessageAt 0) row13 HelloRequest
+    ∷ reject (asMessageAt 1) row13 11
+    ∷ []
+
+abbrev pub Reads : Row → Type 0
+Reads x = (numberIn (answer (x .call) (x .input)) ≡ x .number) × (valuesIn (answer (x .call) (x .input)) ≡ x .values)
+
+abbrev pub AllRead : List Row → Type 0
+AllRead [] = Unit
+AllRead (x ∷ xs) = Reads x × AllRead xs

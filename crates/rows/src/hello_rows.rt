@@ -1,0 +1,179 @@
+// Rows 1 to 9 and 14: hellos.
+use crate::say;
+use libc::STDOUT_FILENO;
+use norrabist::ClientHelloAnswer;
+use norrabist::MessageAnswer;
+use norrabist::OptView;
+use norrabist::ServerHelloAnswer;
+use norrabist::TlsClientHelloContents;
+use norrabist::TlsMessageHandshake;
+use norrabist::TlsServerHelloContents;
+use norrabist::TlsServerHelloV13Draft18Contents;
+
+// How every accepted line ends: the extensions, and the bytes from the tail on.
+fn say_end(s: &[u8], ext: OptView, tail: usize) {
+    say::opt(b", extensions", ext);
+    say::text(b", tail at ");
+    say::number(tail);
+    if tail <= s.len() {
+        say::text(b", ");
+        say::bytes(s.len() - tail);
+    }
+    say::text(b"\n");
+}
+
+fn say_client(s: &[u8], c: TlsClientHelloContents) {
+    say::hex(b"accepted, version ", c.version(), 4);
+    let id = c.session_id;
+    say::opt(b", id", id);
+    say::text(b", ");
+    say::number(c.cipher_count(s));
+    say::text(b" ciphers, ");
+    say::number(c.comp_count(s));
+    say::text(b" methods");
+    let ext = c.ext;
+    say_end(s, ext, c.tail);
+}
+
+fn wide(b: u8) -> u16 {
+    b as u16
+}
+
+fn say_server(s: &[u8], c: TlsServerHelloContents) {
+    say::hex(b"accepted, version ", c.version, 4);
+    let id = c.session_id;
+    say::opt(b", id", id);
+    say::hex(b", cipher ", c.cipher, 4);
+    say::hex(b", compression ", wide(c.compression), 2);
+    let ext = c.ext;
+    say_end(s, ext, c.tail);
+}
+
+fn say_draft18(s: &[u8], c: TlsServerHelloV13Draft18Contents) {
+    say::hex(b"accepted, draft 18, version ", c.version, 4);
+    say::hex(b", cipher ", c.cipher, 4);
+    let ext = c.ext;
+    say_end(s, ext, c.tail);
+}
+
+fn say_message(s: &[u8], m: TlsMessageHandshake) {
+    match m {
+        TlsMessageHandshake::ServerHello(c) => say_server(s, c),
+        TlsMessageHandshake::ServerHelloV13Draft18(c) => say_draft18(s, c),
+        _ => say::text(b"accepted, no ServerHello\n"),
+    }
+}
+
+fn client(row: &[u8], text: &[u8], s: &[u8]) {
+    say::row(row, b"ClientHello", text);
+    match norrabist::parse_tls_handshake_client_hello(s) {
+        ClientHelloAnswer::Refused(r) => say::refused(r),
+        ClientHelloAnswer::Got(c) => say_client(s, c),
+    }
+}
+
+// Two lines: the message form alone opens draft 18.
+fn server(row: &[u8], text: &[u8], s: &[u8]) {
+    say::row(row, b"ServerHello", text);
+    match norrabist::parse_tls_handshake_server_hello(s) {
+        ServerHelloAnswer::Refused(r) => say::refused(r),
+        ServerHelloAnswer::Got(c) => say_server(s, c),
+    }
+    say::row(row, b"ServerHello as message", text);
+    match norrabist::parse_tls_handshake_msg_server_hello(s) {
+        MessageAnswer::Refused(r) => say::refused(r),
+        MessageAnswer::Got(m) => say_message(s, m),
+    }
+}
+
+// H, what may follow it, and its lengths broken one by one.
+pub fn clients() {
+    let mut s = [0u8; 80];
+    s[0] = 0x03;
+    s[1] = 0x03;
+    client(b"1", b"of no bytes", &s[..0]);
+    client(b"2", b"H", &s[..38]);
+    client(b"3", b"H 00", &s[..39]);
+    client(b"4", b"H 0000", &s[..40]);
+    s[39] = 0x01;
+    client(b"5", b"H 0001", &s[..40]);
+    s[34] = 0x21;
+    client(b"6", b"0303 Z 21", &s[..35]);
+    s[34] = 0x20;
+    client(b"7", b"0303 Z 20 and 31 bytes", &s[..66]);
+    s[34] = 0;
+    s[36] = 0x01;
+    client(b"8", b"0303 Z 00 0001 00", &s[..38]);
+    s[36] = 0x02;
+    client(b"8", b"0303 Z 00 0002 00", &s[..38]);
+    s[36] = 0;
+    s[37] = 0x01;
+    client(b"9", b"0303 Z 00 0000 01", &s[..38]);
+}
+
+// Versions that only one of the two functions opens, or neither.
+pub fn versions() {
+    let mut s = [0u8; 80];
+    s[0] = 0x03;
+    s[1] = 0x04;
+    server(b"14", b"0304", &s[..2]);
+    server(b"14", b"03", &s[..1]);
+    s[0] = 0x7f;
+    s[1] = 0x12;
+    server(b"-", b"7f12", &s[..2]);
+    s[34] = 0x13;
+    s[35] = 0x01;
+    server(b"-", b"7f12 Z 1301", &s[..36]);
+}
+
+// At 0x0300 extensions are never looked for.
+pub fn servers() {
+    let mut s = [0u8; 80];
+    s[0] = 0x03;
+    s[36] = 0x2f;
+    server(b"-", b"0300 Z 00 002f 00 0000", &s[..40]);
+    s[1] = 0x03;
+    server(b"-", b"0303 Z 00 002f 00 0000", &s[..40]);
+}
+
+// The parts that the accessors hand out, by their lengths, and the time.
+fn say_accessors(s: &[u8], c: TlsClientHelloContents) {
+    say::text(b"random ");
+    say::bytes(c.random(s).len());
+    say::text(b", rand_time ");
+    io::print_hex(STDOUT_FILENO, c.rand_time(s) as u64, 8);
+    say::text(b", rand_bytes ");
+    say::bytes(c.rand_bytes(s).len());
+    say::text(b", id ");
+    say::bytes(c.session_id(s).len());
+    say::text(b", extensions ");
+    say::bytes(c.ext(s).len());
+    say::text(b"\n");
+}
+
+fn accessor(text: &[u8], s: &[u8]) {
+    say::row(b"-", b"ClientHello", text);
+    match norrabist::parse_tls_handshake_client_hello(s) {
+        ClientHelloAnswer::Refused(r) => say::refused(r),
+        ClientHelloAnswer::Got(c) => say_accessors(s, c),
+    }
+}
+
+// The time is the first four bytes of the random: RFC 5246 7.4.1.2.
+pub fn accessors() {
+    let mut s = [0u8; 80];
+    s[0] = 0x03;
+    s[1] = 0x03;
+    s[5] = 0x01;
+    accessor(b"0303 00000001 and 32 zero bytes", &s[..38]);
+    s[2] = 0x01;
+    s[3] = 0x02;
+    s[4] = 0x03;
+    s[5] = 0x04;
+    s[34] = 0x02;
+    s[41] = 0x01;
+    accessor(
+        b"0303 01020304, 28 zero bytes, 02 0000 0000 00 0001 00",
+        &s[..43],
+    );
+}

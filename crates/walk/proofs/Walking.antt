@@ -1,0 +1,146 @@
+-- The walk over a record's messages: that of `list/proofs/Walk.antt`, a message being what is found at a place. Assumes nothing.
+use Prim.Native.Nat.{ℕ, zero, suc, _+_, _-_, _*_, _<_, _≤_}
+use mathlib.Core.Path.{_≡_, refl, sym, ap, _∙_}
+use mathlib.Core.Logic.{_⊎_, inl, inr}
+use mathlib.Core.List.{List, [], _∷_}
+use native.Mathlib.Omega.{arith}
+use native.Mathlib.Nat.{suc-mul}
+use lib.ListN.{length}
+use Rattle.refusal.specs.Answers.{Answer, accepted, refused, then}
+use Rattle.refusal.specs.Refusals.{refusal}
+use Rattle.refusal.specs.declared.Reason.the-variants.{NoSuch}
+use Rattle.refusal.specs.declared.Refusal.{Refusal}
+use Rattle.refusal.proofs.Then.{not-both, then-accepted, then-refused, either}
+use Rattle.list.specs.Items.{itemsFrom, place, orNoSuch}
+use Rattle.list.proofs.Walk.{Moves, rest, rest-on, rest-end, rest-all, first, go-on, got, none, place-past}
+use Rattle.message.specs.declared.handshake.TlsMessageHandshake.{TlsMessageHandshake}
+use Rattle.envelope.specs.Opening.{Met, metAt}
+use Rattle.envelope.proofs.Heads.{met-lies}
+use Rattle.walk.specs.Walks.{messages, pastAll, dropped, passed, nextMessage, onTo, moved, walkAfter}
+use Rattle.walk.specs.Walking.{bytesOfAll, EveryWalk}
+use Rattle.walk.specs.declared.TlsRecordWalk.{TlsRecordWalk}
+
+abbrev pub behind : Met → ℕ
+behind x = x .head .next
+
+-- what is left of the messages at a place
+abbrev pub left : List ℕ → ℕ → List Met
+left s at = rest (metAt s) behind (length s) at
+
+pub by-messages : (s : List ℕ) → Moves (metAt s) behind (length s)
+by-messages s = record { on = λ at x e. let i = met-lies s at e in (omega arith, i .inside) }
+
+pub all-left : (s : List ℕ) → messages s ≡ left s 0
+all-left s = rest-all (metAt s) behind (length s)
+
+-- a message that can be passed was met
+pub passed-got : (s : List ℕ) (at : ℕ) {n : ℕ} → passed s at ≡ accepted n → (x : Met) × (metAt s at ≡ accepted x) × (behind x ≡ n)
+unfolding passed
+passed-got s at e = let t = then-accepted (metAt s at) (λ x. accepted (behind x)) e in (t .0, t .1, cc (t .2))
+
+pub passed-not : (s : List ℕ) (at : ℕ) {r : Refusal} → passed s at ≡ refused r → metAt s at ≡ refused r
+unfolding passed
+passed-not s at {r} e = go (then-refused (metAt s at) (λ x. accepted (behind x)) e)
+  where
+    go : (metAt s at ≡ refused r) ⊎ ((x : Met) × (metAt s at ≡ accepted x) × (_≡_ {A = Answer ℕ} (accepted (behind x)) (refused r))) → metAt s at ≡ refused r
+    go (inl x) = x
+    go (inr (x, y, z)) = absurd (not-both refl z)
+
+-- where the messages from a place on end
+module _ (s : List ℕ) where
+  past-in : (n at : ℕ) → at ≤ length s → pastAll (itemsFrom n (metAt s) behind at) at ≤ length s
+  unfolding itemsFrom pastAll
+  past-in zero at h = h
+  past-in (suc n) at h = go (λ k l. past-in n k l) (metAt s at) refl
+    where
+      go : ((k : ℕ) → k ≤ length s → pastAll (itemsFrom n (metAt s) behind k) k ≤ length s) → (a : Answer Met) → metAt s at ≡ a → pastAll (itemsFrom (suc n) (metAt s) behind at) at ≤ length s
+      go ih (accepted x) e = rw e (ih (behind x) (met-lies s at e .inside))
+      go ih (refused r) e = rw e h
+
+  past-bytes : (n at : ℕ) → pastAll (itemsFrom n (metAt s) behind at) at ≡ at + bytesOfAll (itemsFrom n (metAt s) behind at)
+  unfolding itemsFrom pastAll bytesOfAll
+  past-bytes zero at = omega arith
+  past-bytes (suc n) at = go (λ k. past-bytes n k) (metAt s at) refl
+    where
+      go : ((k : ℕ) → pastAll (itemsFrom n (metAt s) behind k) k ≡ k + bytesOfAll (itemsFrom n (metAt s) behind k)) → (a : Answer Met) → metAt s at ≡ a → pastAll (itemsFrom (suc n) (metAt s) behind at) at ≡ at + bytesOfAll (itemsFrom (suc n) (metAt s) behind at)
+      go ih (accepted x) e = let i = met-lies s at e in rw e (omega (arith, ih (behind x), i .next))
+      go ih (refused r) e = rw e (omega arith)
+
+pub past-inside : (s : List ℕ) → pastAll (messages s) 0 ≤ length s
+past-inside s = past-in s (length s) 0 (omega arith)
+
+four-each : (xs : List Met) → length xs * 4 ≤ bytesOfAll xs
+unfolding bytesOfAll
+four-each [] = omega arith
+four-each (x ∷ xs) = omega (arith, four-each xs)
+
+-- what stands at the front
+none-first : (s : List ℕ) {r : Refusal} → metAt s 0 ≡ refused r → messages s ≡ []
+none-first s e = all-left s ∙ rest-end (by-messages s) 0 e
+
+pub first-met : (s : List ℕ) → 0 < length (messages s) → (x : Met) × (metAt s 0 ≡ accepted x)
+first-met s h = go (either (metAt s 0))
+  where
+    go : ((x : Met) × (metAt s 0 ≡ accepted x)) ⊎ ((r : Refusal) × (metAt s 0 ≡ refused r)) → (x : Met) × (metAt s 0 ≡ accepted x)
+    go (inl x) = x
+    go (inr (r, e)) = absurd (omega (arith, ap length (none-first s e)))
+
+pub none-at-all : (xs : List Met) → length xs ≡ 0 → xs ≡ []
+none-at-all [] e = refl
+none-at-all (x ∷ xs) e = absurd (omega arith)
+
+-- the walk moved on, by what is met
+moved-on : (s : List ℕ) (w : TlsRecordWalk) {x : Met} → metAt s (w .next) ≡ accepted x → moved s w ≡ record { body = x .head .body; next = behind x }
+unfolding moved
+moved-on s w e = rw e
+
+moved-not : (s : List ℕ) (w : TlsRecordWalk) {r : Refusal} → metAt s (w .next) ≡ refused r → moved s w ≡ w
+unfolding moved
+moved-not s w e = rw e
+
+-- behind no message there is none
+none-after : (k : ℕ) (xs : List Met) {r : Refusal} → place k xs ≡ refused r → place (suc k) xs ≡ refused (refusal NoSuch 0 0)
+unfolding place
+none-after k [] e = refl
+none-after zero (x ∷ xs) e = absurd (not-both refl e)
+none-after (suc k) (x ∷ xs) e = none-after k xs e
+
+module _ (s : List ℕ) where
+  -- the walk after k calls stands where the message at the place k is met
+  stands : (k : ℕ) → orNoSuch (metAt s (walkAfter k s .next)) ≡ place k (messages s)
+  unfolding walkAfter
+  stands zero = rw (all-left s) (sym (first (by-messages s) 0))
+  stands (suc k) = go (metAt s (walkAfter k s .next)) refl (stands k)
+    where
+      go : (a : Answer Met) → metAt s (walkAfter k s .next) ≡ a → orNoSuch (metAt s (walkAfter k s .next)) ≡ place k (messages s) → orNoSuch (metAt s (moved s (walkAfter k s) .next)) ≡ place (suc k) (messages s)
+      go (accepted x) e ih =
+          let p : place k (left s 0) ≡ accepted x = rw (← (all-left s)) (sym ih ∙ rw e) in
+          rw (moved-on s (walkAfter k s) e, all-left s) (sym (go-on (by-messages s) k 0 p))
+      go (refused r) e ih =
+          let p : place k (messages s) ≡ refused (refusal NoSuch 0 0) = sym ih ∙ rw e in
+          rw (moved-not s (walkAfter k s) e, e) (sym (none-after k (messages s) p))
+
+  meets : (k : ℕ) → nextMessage s (walkAfter k s) ≡ then (place k (messages s)) (λ x. accepted (x .says))
+  unfolding nextMessage
+  meets k = rw (stands k)
+
+  tells : (k : ℕ) (x : Met) → place k (messages s) ≡ accepted x → walkAfter (suc k) s ≡ record { body = x .head .body; next = behind x }
+  unfolding walkAfter
+  tells k x e = moved-on s (walkAfter k s) (got (metAt s (walkAfter k s .next)) (stands k ∙ e))
+
+  stays : (w : TlsRecordWalk) (r : Refusal) → nextMessage s w ≡ refused r → (r ≡ refusal NoSuch 0 0) × (moved s w ≡ w)
+  unfolding nextMessage
+  stays w r e = go (then-refused (orNoSuch (metAt s (w .next))) (λ x. accepted (x .says)) e)
+    where
+      go : (orNoSuch (metAt s (w .next)) ≡ refused r) ⊎ ((x : Met) × (orNoSuch (metAt s (w .next)) ≡ accepted x) × (_≡_ {A = Answer TlsMessageHandshake} (accepted (x .says)) (refused r))) → (r ≡ refusal NoSuch 0 0) × (moved s w ≡ w)
+      go (inl y) = let n = none (metAt s (w .next)) y in (n .2, moved-not s w (n .1))
+      go (inr (x, y, z)) = absurd (not-both refl z)
+
+  whole : bytesOfAll (messages s) + dropped s ≡ length s
+  whole = omega (arith, past-bytes s (length s) 0, past-inside s)
+
+  steps : length (messages s) * 4 ≤ length s
+  steps = omega (arith, whole, four-each (messages s))
+
+pub every-walk : EveryWalk
+every-walk s = record { meets = meets s; tells = tells s; stays = stays s; whole = whole s; steps = steps s }

@@ -1,0 +1,32 @@
+-- What is shown of the walk over every content: `proofs/Walking.antt`.
+use Prim.Native.Nat.{ℕ, suc, _+_, _*_, _≤_}
+use mathlib.Core.Path.{_≡_}
+use mathlib.Core.List.{List, [], _∷_}
+use lib.ListN.{length}
+use Rattle.refusal.specs.Answers.{accepted, refused, then}
+use Rattle.refusal.specs.Refusals.{refusal}
+use Rattle.refusal.specs.declared.Reason.the-variants.{NoSuch}
+use Rattle.refusal.specs.declared.Refusal.{Refusal}
+use Rattle.list.specs.Items.{place}
+use Rattle.envelope.specs.Opening.{Met}
+use Rattle.walk.specs.Walks.{messages, dropped, nextMessage, moved, walkAfter}
+use Rattle.walk.specs.declared.TlsRecordWalk.{TlsRecordWalk}
+
+-- the bytes of messages: the head's four and the body's
+unfoldable pub bytesOfAll : List Met → ℕ
+bytesOfAll [] = 0
+bytesOfAll (x ∷ xs) = 4 + x .head .body .len + bytesOfAll xs
+
+pub record Walking (content : List ℕ) : Type 0 where
+  -- each call hands back the message at its place, and past the last one NoSuch
+  pub meets : (k : ℕ) → nextMessage content (walkAfter k content) ≡ then (place k (messages content)) (λ x. accepted (x .says))
+  -- and the walk moved on tells where that message's body lies and where the next begins
+  pub tells : (k : ℕ) (x : Met) → place k (messages content) ≡ accepted x → walkAfter (suc k) content ≡ record { body = x .head .body; next = x .head .next }
+  -- a walk that hands back no message says NoSuch and stays
+  pub stays : (w : TlsRecordWalk) (r : Refusal) → nextMessage content w ≡ refused r → (r ≡ refusal NoSuch 0 0) × (moved content w ≡ w)
+  -- steps in proportion: each byte is one message's or is dropped, and each message has four at least
+  pub whole : bytesOfAll (messages content) + dropped content ≡ length content
+  pub steps : length (messages content) * 4 ≤ length content
+
+abbrev pub EveryWalk : Type 0
+EveryWalk = (content : List ℕ) → Walking content

@@ -1,0 +1,118 @@
+// The walk over the messages of a handshake record, lent as its content.
+ghost use mathlib.Core.Path.{_≡_};
+ghost use lib.ListN.{length};
+ghost use Rattle.message.specs.Messages.{messageSays};
+ghost use Rattle.walk.specs.Walks.{messages, moved, nextMessage, passed, passedSays, pastAll, start};
+ghost use Rattle.envelope.specs.Opening.{metAt};
+ghost use Rattle.refusal.specs.Answers.{refused};
+use envelope::HeadAnswer;
+use message::handshake::MessageAnswer;
+use refusal::Reason;
+use refusal::Refusal;
+use wire::view::View;
+
+// Where the walk stands: the body of the message handed out last, empty before the first, and where the next message begins.
+pub struct TlsRecordWalk {
+    pub body: View,
+    pub next: usize,
+}
+
+// The message, and the walk moved on; past the last message NoSuch, and the walk as it was.
+pub struct Walked {
+    pub message: MessageAnswer,
+    pub walk: TlsRecordWalk,
+}
+
+impl TlsRecordWalk {
+    // At the first message.
+    pub fn new() -> Self
+        ensures { λ r. ⌜ r ≡ start ⌝ }
+    {
+        let body = View { start: 0, len: 0 };
+        TlsRecordWalk { body, next: 0 }
+    }
+
+    // The message's views are of its body, `part_of(s, walk.body)` of the walk handed back.
+    pub fn next(self, s: &[u8]) -> Walked
+        ensures { λ r. ⌜ messageSays (r .message) ≡ nextMessage (now (s .entry)) self ⌝ }
+        ensures { λ r. ⌜ r .walk ≡ moved (now (s .entry)) self ⌝ }
+    {
+        let head = match envelope::parse_tls_message_head(s, self.next) {
+            HeadAnswer::Refused(_) => {
+                let message = MessageAnswer::Refused(refusal::refuse(Reason::NoSuch, 0, 0));
+                return Walked {
+                    message,
+                    walk: self,
+                };
+            }
+            HeadAnswer::Got(h) => h,
+        };
+        let body = head.body;
+        match envelope::parse_tls_handshake_body(head.kind, wire::view::part_of(s, body)) {
+            MessageAnswer::Refused(_) => {
+                let message = MessageAnswer::Refused(refusal::refuse(Reason::NoSuch, 0, 0));
+                Walked {
+                    message,
+                    walk: self,
+                }
+            }
+            MessageAnswer::Got(m) => {
+                let message = MessageAnswer::Got(m);
+                let walk = TlsRecordWalk {
+                    body,
+                    next: head.next,
+                };
+                Walked { message, walk }
+            }
+        }
+    }
+}
+
+pub enum PassedAnswer {
+    Refused(Refusal),
+    Got(usize),
+}
+
+// Whether a message that begins at `at` can be opened: the place past it. The message itself is not handed out.
+pub fn pass_tls_message(s: &[u8], at: usize) -> PassedAnswer
+    ensures { λ r. ⌜ passedSays r ≡ passed (now (s .entry)) at ⌝ }
+{
+    let head = match envelope::parse_tls_message_head(s, at) {
+        HeadAnswer::Refused(r) => {
+            return PassedAnswer::Refused(r);
+        }
+        HeadAnswer::Got(h) => h,
+    };
+    let body = head.body;
+    match envelope::parse_tls_handshake_body(head.kind, wire::view::part_of(s, body)) {
+        MessageAnswer::Refused(r) => PassedAnswer::Refused(refusal::inside(r, body.start)),
+        MessageAnswer::Got(_) => PassedAnswer::Got(head.next),
+    }
+}
+
+// How many messages there are, where the last one ends, and why there is none behind it.
+pub struct Tally {
+    pub count: usize,
+    pub end: usize,
+    pub stop: Refusal,
+}
+
+pub fn count_messages(s: &[u8]) -> Tally
+    ensures { λ r. ⌜ r .count ≡ length (messages (now (s .entry))) ⌝ }
+    ensures { λ r. ⌜ r .end ≡ pastAll (messages (now (s .entry))) 0 ⌝ }
+    ensures { λ r. ⌜ metAt (now (s .entry)) (r .end) ≡ refused (r .stop) ⌝ }
+{
+    let mut count: usize = 0;
+    let mut end: usize = 0;
+    loop {
+        match pass_tls_message(s, end) {
+            PassedAnswer::Refused(stop) => {
+                return Tally { count, end, stop };
+            }
+            PassedAnswer::Got(next) => {
+                end = next;
+                count += 1;
+            }
+        }
+    }
+}
