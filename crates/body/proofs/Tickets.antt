@@ -11,8 +11,9 @@ use Rattle.refusal.specs.declared.Reason.the-variants.{Incomplete, Verify}
 use Rattle.refusal.specs.declared.Refusal.{Refusal}
 use Rattle.wire.specs.Numbers.{be}
 use Rattle.wire.specs.declared.view.Part.{Part}
-use Rattle.wire.proofs.Parts.{found, part-in, fits}
+use Rattle.wire.proofs.Parts.{fits}
 use Rattle.field.specs.Fields.{fixed, step}
+use Rattle.field.proofs.Rules.{fixed-in}
 use Rattle.grammar.specs.Forms.{reading}
 use Rattle.grammar.proofs.Chain.{begin, and, end}
 use Rattle.body.specs.Ticket.{ticket, sessionTicket}
@@ -29,10 +30,6 @@ past-end n s h e = rw (le-ltb n 4 h, e)
 pub by-form : (n : ℕ) (s : List ℕ) {p : Part} → 4 ≤ n → step (fixed n) s 0 ≡ accepted p → sessionTicket n s ≡ reading (ticket n) s
 unfolding sessionTicket
 by-form n s h e = rw (le-ltb n 4 h, e)
-
-pub fixed-in : (n : ℕ) (s : List ℕ) (at : ℕ) → at + n ≤ length s → step (fixed n) s at ≡ accepted (found at n)
-unfolding step
-fixed-in n s at h = part-in Incomplete s at n h
 
 -- a body that was found ends where the length says
 pub there : (n : ℕ) (s : List ℕ) {p : Part} → step (fixed n) s 0 ≡ accepted p → (p .next ≡ n) × (n ≤ length s)

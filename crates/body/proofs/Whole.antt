@@ -8,19 +8,20 @@ use Rattle.refusal.specs.Answers.{Answer, accepted, refused, TellSame}
 use Rattle.refusal.proofs.Told.{tells-all}
 use Rattle.wire.specs.Numbers.{Bytes}
 use Rattle.field.specs.Fields.{fixed}
+use Rattle.field.proofs.Rules.{fixed-in}
 use Rattle.field.proofs.Steps.{step-lacks}
 use Rattle.grammar.proofs.Forms.{Lawful, by-split}
 use Rattle.body.specs.Retry.{retry, retrySays}
 use Rattle.body.specs.Ticket.{ticket, ticketSays}
 use Rattle.body.specs.NextProtocol.{nextProtocol, nextProtocolSays}
-use Rattle.body.specs.Bodies.{OfTicket, AllBodies}
+use Rattle.body.specs.Whole.{OfTicket, AllBodies}
 use Rattle.body.specs.declared.retry.TlsHelloRetryRequestContents.{TlsHelloRetryRequestContents}
 use Rattle.body.specs.declared.retry.HelloRetryRequestAnswer.{HelloRetryRequestAnswer}
 use Rattle.body.specs.declared.ticket.TlsNewSessionTicketContent.{TlsNewSessionTicketContent}
 use Rattle.body.specs.declared.ticket.NewSessionTicketAnswer.{NewSessionTicketAnswer}
 use Rattle.body.specs.declared.next_protocol.TlsNextProtocolContent.{TlsNextProtocolContent}
 use Rattle.body.specs.declared.next_protocol.NextProtocolAnswer.{NextProtocolAnswer}
-use Rattle.body.proofs.Tickets.{under-4, past-end, by-form, fixed-in, form-whole}
+use Rattle.body.proofs.Tickets.{under-4, past-end, by-form, form-whole}
 
 retry-lawful : Lawful retry
 retry-lawful = record { suits = (refl, (refl, tt)); handed = λ o e t. refl; block = λ o e t. refl; tail = λ o e t. refl }

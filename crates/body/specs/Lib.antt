@@ -1,4 +1,4 @@
 pub mod Retry
 pub mod Ticket
 pub mod NextProtocol
-pub mod Bodies
+pub mod Whole

@@ -1,13 +1,16 @@
 -- Each body that speaks of certificates is accepted exactly when it splits by its grammar, instances of the one theorem; and equal numbers and
 -- values mean equal answers. Assumes nothing.
+use Prim.Native.Nat.{ℕ}
 use mathlib.Core.Path.{_≡_, refl}
+use mathlib.Core.List.{List}
 use Rattle.refusal.specs.Answers.{Answer, accepted, refused, TellSame}
 use Rattle.refusal.proofs.Told.{tells-all}
+use Rattle.grammar.specs.Demand3.{BySplit}
 use Rattle.grammar.proofs.Forms.{Lawful, by-split}
 use Rattle.certs.specs.Certificate.{certificate, certificateSays}
-use Rattle.certs.specs.Request.{long, short, requestSays}
+use Rattle.certs.specs.Request.{long, short, certificateRequest, requestSays}
 use Rattle.certs.specs.Status.{status, statusSays}
-use Rattle.certs.specs.Bodies.{AllBodies}
+use Rattle.certs.specs.Whole.{OfRequest, AllBodies}
 use Rattle.certs.specs.declared.certificate.TlsCertificateContents.{TlsCertificateContents}
 use Rattle.certs.specs.declared.certificate.CertificateAnswer.{CertificateAnswer}
 use Rattle.certs.specs.declared.request.TlsCertificateRequestContents.{TlsCertificateRequestContents}
@@ -27,11 +30,21 @@ short-lawful = record { suits = (tt, (tt, tt)); handed = λ o e t. refl; block =
 status-lawful : Lawful status
 status-lawful = record { suits = (refl, (tt, tt)); handed = λ o e t. refl; block = λ o e t. refl; tail = λ o e t. refl }
 
+-- the two forms one after the other, by the theorem of each
+of-request : (s : List ℕ) → BySplit long s → BySplit short s → OfRequest s
+unfolding certificateRequest
+of-request s l h = record {
+  asLong = λ x y. rw (l .accepts x y);
+  asShort = λ r f x y. rw (l .refuses r f, h .accepts x y);
+  neither = λ r t f g. rw (l .refuses r f, h .refuses t g);
+}
+
 pub all-bodies : AllBodies
 all-bodies s b = record {
   ofCertificate = by-split certificate certificate-lawful s b;
   ofLongRequest = by-split long long-lawful s b;
   ofShortRequest = by-split short short-lawful s b;
+  ofRequest = of-request s (by-split long long-lawful s b) (by-split short short-lawful s b);
   ofStatus = by-split status status-lawful s b;
 }
 

@@ -1,4 +1,4 @@
 pub mod Certificate
 pub mod Request
 pub mod Status
-pub mod Bodies
+pub mod Whole

@@ -15,7 +15,7 @@ use Rattle.wire.specs.Numbers.{be, numberAt}
 use Rattle.wire.specs.Parts.{partAt}
 use Rattle.wire.specs.declared.view.Part.{Part}
 use Rattle.wire.specs.declared.number.Number.{Number}
-use Rattle.wire.proofs.Parts.{fits, part-in, part-out}
+use Rattle.wire.proofs.Parts.{found, fits, part-in, part-out}
 use Rattle.wire.proofs.Numbers.{number-is, number-short}
 use Rattle.field.specs.Fields.{Field, fixed, counted, Rule, ruled, step}
 
@@ -64,6 +64,10 @@ step-in (fixed n) s at e =
     let g = fits _ s at n e in
     rw (g .is) (omega arith, g .inside)
 step-in (counted w r) s at e = let l = counted-lies w r s at e in (omega (arith, l .next), l .inside)
+
+pub fixed-in : (n : ℕ) (s : List ℕ) (at : ℕ) → at + n ≤ length s → step (fixed n) s at ≡ accepted (found at n)
+unfolding step
+fixed-in n s at h = part-in Incomplete s at n h
 
 -- a number is a fixed part of its width
 pub number-field : (w : ℕ) (s : List ℕ) (at : ℕ) {l : Number} → numberAt w s at ≡ accepted l → step (fixed w) s at ≡ accepted (record { view = record { start = at; len = w }; next = l .next })

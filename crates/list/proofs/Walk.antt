@@ -26,6 +26,17 @@ place-below n [] h = absurd (omega arith)
 place-below zero (x ∷ xs) h = (x, refl)
 place-below (suc n) (x ∷ xs) h = place-below n xs (omega arith)
 
+-- behind nothing there is nothing
+pub none-after : {A : Type 0} (k : ℕ) (xs : List A) {r : Refusal} → place k xs ≡ refused r → place (suc k) xs ≡ refused (refusal NoSuch 0 0)
+unfolding place
+none-after k [] e = refl
+none-after zero (x ∷ xs) e = absurd (not-both refl e)
+none-after (suc k) (x ∷ xs) e = none-after k xs e
+
+pub none-at-all : {A : Type 0} (xs : List A) → length xs ≡ 0 → xs ≡ []
+none-at-all [] e = refl
+none-at-all (x ∷ xs) e = absurd (omega arith)
+
 -- what an answer that is NoSuch where nothing is found says of what is found
 pub got : {A : Type 0} (a : Answer A) {x : A} → orNoSuch a ≡ accepted x → a ≡ accepted x
 got (accepted y) e = e

@@ -21,7 +21,7 @@ pub fn wide(b: u8) -> u16 {
     b as u16
 }
 
-// The place `by` bytes past `at`. Both lie in the input, so that the sum is small and does not wrap.
+// The place `by` bytes past `at`. Both are at most the input's length, so that the sum is small and does not wrap.
 pub fn past(at: usize, by: usize) -> usize {
     std::num::wrapping_add_usize(at, by)
 }

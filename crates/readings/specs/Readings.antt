@@ -71,7 +71,7 @@ allEmpty ext tail = record {
   tail = tail;
 }
 
--- a message of five bytes in a record: the record of row 13
+-- row 13: a record of a message of four bytes, and one byte more
 abbrev pub row13 : List ℕ
 row13 = 0x16 ∷ 0x03 ∷ 0x03 ∷ 0x00 ∷ 0x05 ∷ 0x00 ∷ 0x00 ∷ 0x00 ∷ 0x00 ∷ 0x01 ∷ []
 

@@ -52,7 +52,7 @@ fn say_chain(s: &[u8], c: TlsCertificateContents) {
         at = say_part(chain, c.cert_from(s, at));
     }
     say::text(b", then");
-    at = say_part(chain, c.cert_at(s, count));
+    say_part(chain, c.cert_at(s, count));
     say::text(b", tail at ");
     say::number(c.tail);
     say::text(b"\n");
@@ -79,6 +79,8 @@ fn say_names(s: &[u8], c: TlsCertificateRequestContents) {
     for k in 0..count {
         at = say_part(list, c.ca_from(s, at));
     }
+    say::text(b", then");
+    say_part(list, c.ca_at(s, count));
 }
 
 fn say_request(s: &[u8], c: TlsCertificateRequestContents) {

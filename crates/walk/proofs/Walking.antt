@@ -1,10 +1,9 @@
 -- The walk over a record's messages: that of `list/proofs/Walk.antt`, a message being what is found at a place. Assumes nothing.
-use Prim.Native.Nat.{ℕ, zero, suc, _+_, _-_, _*_, _<_, _≤_}
+use Prim.Native.Nat.{ℕ, zero, suc, _+_, _*_, _<_, _≤_}
 use mathlib.Core.Path.{_≡_, refl, sym, ap, _∙_}
 use mathlib.Core.Logic.{_⊎_, inl, inr}
 use mathlib.Core.List.{List, [], _∷_}
 use native.Mathlib.Omega.{arith}
-use native.Mathlib.Nat.{suc-mul}
 use lib.ListN.{length}
 use Rattle.refusal.specs.Answers.{Answer, accepted, refused, then}
 use Rattle.refusal.specs.Refusals.{refusal}
@@ -12,11 +11,11 @@ use Rattle.refusal.specs.declared.Reason.the-variants.{NoSuch}
 use Rattle.refusal.specs.declared.Refusal.{Refusal}
 use Rattle.refusal.proofs.Then.{not-both, then-accepted, then-refused, either}
 use Rattle.list.specs.Items.{itemsFrom, place, orNoSuch}
-use Rattle.list.proofs.Walk.{Moves, rest, rest-on, rest-end, rest-all, first, go-on, got, none, place-past}
+use Rattle.list.proofs.Walk.{Moves, rest, rest-end, rest-all, first, go-on, got, none, none-after, place-past}
 use Rattle.message.specs.declared.handshake.TlsMessageHandshake.{TlsMessageHandshake}
 use Rattle.envelope.specs.Opening.{Met, metAt}
 use Rattle.envelope.proofs.Heads.{met-lies}
-use Rattle.walk.specs.Walks.{messages, pastAll, dropped, passed, nextMessage, onTo, moved, walkAfter}
+use Rattle.walk.specs.Walks.{messages, pastAll, dropped, passed, nextMessage, moved, walkAfter}
 use Rattle.walk.specs.Walking.{bytesOfAll, EveryWalk}
 use Rattle.walk.specs.declared.TlsRecordWalk.{TlsRecordWalk}
 
@@ -85,10 +84,6 @@ first-met s h = go (either (metAt s 0))
     go (inl x) = x
     go (inr (r, e)) = absurd (omega (arith, ap length (none-first s e)))
 
-pub none-at-all : (xs : List Met) → length xs ≡ 0 → xs ≡ []
-none-at-all [] e = refl
-none-at-all (x ∷ xs) e = absurd (omega arith)
-
 -- the walk moved on, by what is met
 moved-on : (s : List ℕ) (w : TlsRecordWalk) {x : Met} → metAt s (w .next) ≡ accepted x → moved s w ≡ record { body = x .head .body; next = behind x }
 unfolding moved
@@ -97,13 +92,6 @@ moved-on s w e = rw e
 moved-not : (s : List ℕ) (w : TlsRecordWalk) {r : Refusal} → metAt s (w .next) ≡ refused r → moved s w ≡ w
 unfolding moved
 moved-not s w e = rw e
-
--- behind no message there is none
-none-after : (k : ℕ) (xs : List Met) {r : Refusal} → place k xs ≡ refused r → place (suc k) xs ≡ refused (refusal NoSuch 0 0)
-unfolding place
-none-after k [] e = refl
-none-after zero (x ∷ xs) e = absurd (not-both refl e)
-none-after (suc k) (x ∷ xs) e = none-after k xs e
 
 module _ (s : List ℕ) where
   -- the walk after k calls stands where the message at the place k is met
@@ -142,5 +130,8 @@ module _ (s : List ℕ) where
   steps : length (messages s) * 4 ≤ length s
   steps = omega (arith, whole, four-each (messages s))
 
+  ends : (k : ℕ) → length s < k * 4 → nextMessage s (walkAfter k s) ≡ refused (refusal NoSuch 0 0)
+  ends k h = meets k ∙ rw (place-past k (messages s) (omega (arith, h, steps)))
+
 pub every-walk : EveryWalk
-every-walk s = record { meets = meets s; tells = tells s; stays = stays s; whole = whole s; steps = steps s }
+every-walk s = record { meets = meets s; tells = tells s; stays = stays s; whole = whole s; steps = steps s; ends = ends s }

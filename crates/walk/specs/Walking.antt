@@ -1,5 +1,5 @@
 -- What is shown of the walk over every content: `proofs/Walking.antt`.
-use Prim.Native.Nat.{ℕ, suc, _+_, _*_, _≤_}
+use Prim.Native.Nat.{ℕ, suc, _+_, _*_, _<_, _≤_}
 use mathlib.Core.Path.{_≡_}
 use mathlib.Core.List.{List, [], _∷_}
 use lib.ListN.{length}
@@ -27,6 +27,8 @@ pub record Walking (content : List ℕ) : Type 0 where
   -- steps in proportion: each byte is one message's or is dropped, and each message has four at least
   pub whole : bytesOfAll (messages content) + dropped content ≡ length content
   pub steps : length (messages content) * 4 ≤ length content
+  -- so that a walk over n bytes is at its end after n / 4 calls
+  pub ends : (k : ℕ) → length content < k * 4 → nextMessage content (walkAfter k content) ≡ refused (refusal NoSuch 0 0)
 
 abbrev pub EveryWalk : Type 0
 EveryWalk = (content : List ℕ) → Walking content

@@ -54,14 +54,14 @@ pub fn opt_part_of(body: &[u8], v: OptView) -> &[u8]
     }
 }
 
-// The bytes from `at` on; none where that lies outside.
-pub fn rest_of(s: &[u8], at: usize) -> &[u8]
-    ensures { λ r. ⌜ now r ≡ drop at (now (s .entry)) ⌝ }
+// The bytes from `from` on; none where that lies outside.
+pub fn rest_of(s: &[u8], from: usize) -> &[u8]
+    ensures { λ r. ⌜ now r ≡ drop from (now (s .entry)) ⌝ }
 {
-    if s.len() < at {
+    if s.len() < from {
         return &s[..0];
     }
-    &s[at..]
+    &s[from..]
 }
 
 // The bytes behind the part that `v` names; none where that lies outside.

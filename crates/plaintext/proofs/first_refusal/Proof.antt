@@ -1,5 +1,4 @@
 -- `plaintext::first_refusal` meets its contract. Assumes nothing.
-use mathlib.Core.Path.{_∙_}
 use borrow.Author.Tests.{eq-eqb, ne-eqb}
 use borrow.Author.Needs.{needs}
 use Rattle.plaintext.proofs.first_refusal.Statement.{statement}

@@ -5,10 +5,11 @@ use native.Mathlib.Omega.{arith}
 use lib.ListN.{length}
 use denote.Ref.{now}
 use Rattle.refusal.specs.Answers.{refused}
+use Rattle.list.proofs.Walk.{none-at-all}
 use Rattle.envelope.specs.Opening.{metAt}
 use Rattle.walk.specs.Walks.{messages, pastAll}
 use Rattle.plaintext.specs.Plaintext.{handshakes}
-use Rattle.walk.proofs.Walking.{past-inside, none-at-all, first-met}
+use Rattle.walk.proofs.Walking.{past-inside, first-met}
 use borrow.Author.Needs.{needs}
 use Rattle.plaintext.proofs.open_handshake.Statement.{statement}
 use Rattle.plaintext.proofs.open_handshake.Tie as tie

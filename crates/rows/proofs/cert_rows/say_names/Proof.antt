@@ -5,10 +5,10 @@ use Rattle.rows.proofs.cert_rows.say_names.Statement.{statement}
 use Rattle.rows.proofs.cert_rows.say_names.Tie as tie
 
 abbrev Inv-loop : tie.InvT-loop
-Inv-loop s c list count at₀ k₀ at k = Unit
+Inv-loop s c list count at₀ k₀ t9 at k = Unit
 
 abbrev μ-loop : tie.MeasureT-loop
-μ-loop s c list count at₀ k₀ at k = count - k
+μ-loop s c list count at₀ k₀ t9 at k = count - k
 
 part-of-requires : tie.Need-part-of-requires Inv-loop μ-loop
 part-of-requires c κs = search needs
@@ -49,6 +49,18 @@ loop-less c = search needs
 loop-again : tie.Need-loop-again Inv-loop μ-loop
 loop-again c = search needs
 
+slice-aggregate-text-3 : tie.Need-slice-aggregate-text-3 Inv-loop μ-loop
+slice-aggregate-text-3 c = search needs
+
+text-requires-3 : tie.Need-text-requires-3 Inv-loop μ-loop
+text-requires-3 c κs = search needs
+
+ca-at-requires : tie.Need-ca-at-requires Inv-loop μ-loop
+ca-at-requires c κs = search needs
+
+say-part-requires-2 : tie.Need-say-part-requires-2 Inv-loop μ-loop
+say-part-requires-2 c κs = search needs
+
 returns : tie.Need-returns Inv-loop μ-loop
 returns c = search needs
 
@@ -71,4 +83,8 @@ say-names-spec =
     add-k
     loop-less
     loop-again
+    slice-aggregate-text-3
+    text-requires-3
+    ca-at-requires
+    say-part-requires-2
     returns)

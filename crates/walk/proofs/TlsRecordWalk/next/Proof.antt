@@ -1,5 +1,5 @@
 -- `walk::TlsRecordWalk::next` meets its contract: the message that is met, or NoSuch. Assumes nothing.
-use mathlib.Core.Path.{ap, _∙_}
+use mathlib.Core.Path.{ap}
 use Rattle.refusal.specs.Answers.{refused}
 use Rattle.refusal.proofs.Told.{case}
 use Rattle.message.specs.Messages.{messageSays}

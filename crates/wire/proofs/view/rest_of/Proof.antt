@@ -14,7 +14,7 @@ slice-aggregate-result c = search needs
 returns : tie.Need-returns
 returns c =
     let a = c .before .before .args in
-    sym (drop-of-length-le (a .s .now) {i = a .at} (omega arith))
+    sym (drop-of-length-le (a .s .now) {i = a .from} (omega arith))
 
 sub-result : tie.Need-sub-result
 sub-result c = search needs
@@ -29,7 +29,7 @@ returns-2 : tie.Need-returns-2
 returns-2 c =
     let a = c .before .before .args in
     let s = a .s .now in
-    take-all (length s - a .at) (drop (a .at) s) (rw length-drop (omega arith))
+    take-all (length s - a .from) (drop (a .from) s) (rw length-drop (omega arith))
 
 pub rest-of-spec : {M : Type 1} → statement M
 rest-of-spec =
