@@ -1,10 +1,13 @@
--- Where a message that was met lies: its body behind four bytes, and both within the bytes. Assumes nothing.
+-- What head and body say of the message that begins at a place; and where a message that was met lies: its body behind four bytes, and both
+-- within the bytes. Assumes nothing.
 use Prim.Native.Nat.{ℕ, _+_, _≤_}
 use mathlib.Core.Path.{_≡_}
 use mathlib.Core.List.{List}
 use native.Mathlib.Omega.{arith}
 use lib.ListN.{length}
-use Rattle.refusal.specs.Answers.{accepted, then, within}
+use Rattle.refusal.specs.Answers.{accepted, refused, then, within}
+use Rattle.refusal.specs.Refusals.{inside}
+use Rattle.refusal.specs.declared.Refusal.{Refusal}
 use Rattle.refusal.proofs.Then.{then-accepted, within-accepted}
 use Rattle.wire.specs.Numbers.{numberAt}
 use Rattle.wire.specs.Parts.{partOf}
@@ -17,6 +20,19 @@ use Rattle.message.specs.declared.handshake.TlsMessageHandshake.{TlsMessageHand
 use Rattle.envelope.specs.Heads.{headAt}
 use Rattle.envelope.specs.Opening.{Met, metAt, byType}
 use Rattle.envelope.specs.declared.TlsMessageHead.{TlsMessageHead}
+
+module _ (s : List ℕ) (at : ℕ) where
+  pub met-no-head : {r : Refusal} → headAt s at ≡ refused r → metAt s at ≡ refused r
+  unfolding metAt
+  met-no-head e = rw e
+
+  pub met-no-body : {h : TlsMessageHead} {r : Refusal} → headAt s at ≡ accepted h → byType (h .kind) (partOf s (h .body)) ≡ refused r → metAt s at ≡ refused (inside (h .body .start) r)
+  unfolding metAt
+  met-no-body e d = rw (e, d)
+
+  pub met-got : {h : TlsMessageHead} {m : TlsMessageHandshake} → headAt s at ≡ accepted h → byType (h .kind) (partOf s (h .body)) ≡ accepted m → metAt s at ≡ accepted (record { head = h; says = m })
+  unfolding metAt
+  met-got e d = rw (e, d)
 
 pub record Lies (s : List ℕ) (at : ℕ) (h : TlsMessageHead) : Type 0 where
   pub start : h .body .start ≡ at + 4

@@ -4,7 +4,8 @@ use Rattle.refusal.specs.Answers.{refused}
 use Rattle.refusal.proofs.Told.{case}
 use Rattle.message.specs.Messages.{messageSays}
 use Rattle.envelope.specs.Heads.{headSays}
-use Rattle.envelope.specs.Opening.{metAt, message}
+use Rattle.envelope.specs.Opening.{message}
+use Rattle.envelope.proofs.Heads.{met-no-head, met-no-body, met-got}
 use borrow.Author.Needs.{needs}
 use Rattle.envelope.proofs.parse_tls_message_handshake.Statement.{statement}
 use Rattle.envelope.proofs.parse_tls_message_handshake.Tie as tie
@@ -16,8 +17,8 @@ enum-known-r : tie.Need-enum-known-r
 enum-known-r c = search needs
 
 returns : tie.Need-returns
-unfolding message metAt
-returns c = rw (case headSays (c .before .before .before .parse-tls-message-head .ensures) (c .before .r .given .1))
+unfolding message
+returns c = rw (met-no-head _ 0 (case headSays (c .before .before .before .parse-tls-message-head .ensures) (c .before .r .given .1)))
 
 enum-known-h : tie.Need-enum-known-h
 enum-known-h c = search needs
@@ -38,18 +39,18 @@ enum-known-m : tie.Need-enum-known-m
 enum-known-m c = search needs
 
 returns-2 : tie.Need-returns-2
-unfolding message metAt
+unfolding message
 returns-2 c =
     let f = c .before .before .before .before in
     let g = f .before .before .before in
-    rw (case headSays (g .before .before .before .parse-tls-message-head .ensures) (g .before .h .given .1), case messageSays (rw (f .before .part-of .ensures) at (f .parse-tls-handshake-body .ensures)) (c .before .before .r2 .given .1)) (ap refused (c .inside .ensures))
+    rw (met-no-body _ 0 (case headSays (g .before .before .before .parse-tls-message-head .ensures) (g .before .h .given .1)) (case messageSays (rw (f .before .part-of .ensures) at (f .parse-tls-handshake-body .ensures)) (c .before .before .r2 .given .1))) (ap refused (c .inside .ensures))
 
 returns-3 : tie.Need-returns-3
-unfolding message metAt
+unfolding message
 returns-3 c =
     let f = c .before .before .before in
     let g = f .before .before .before in
-    rw (case headSays (g .before .before .before .parse-tls-message-head .ensures) (g .before .h .given .1), case messageSays (rw (f .before .part-of .ensures) at (f .parse-tls-handshake-body .ensures)) (c .before .m .given .1))
+    rw (met-got _ 0 (case headSays (g .before .before .before .parse-tls-message-head .ensures) (g .before .h .given .1)) (case messageSays (rw (f .before .part-of .ensures) at (f .parse-tls-handshake-body .ensures)) (c .before .m .given .1)))
 
 pub parse-tls-message-handshake-spec : {M : Type 1} → statement M
 parse-tls-message-handshake-spec =

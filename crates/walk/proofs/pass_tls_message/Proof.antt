@@ -4,7 +4,7 @@ use Rattle.refusal.specs.Answers.{refused}
 use Rattle.refusal.proofs.Told.{case}
 use Rattle.message.specs.Messages.{messageSays}
 use Rattle.envelope.specs.Heads.{headSays}
-use Rattle.envelope.specs.Opening.{metAt}
+use Rattle.envelope.proofs.Heads.{met-no-head, met-no-body, met-got}
 use Rattle.walk.specs.Walks.{passed}
 use borrow.Author.Needs.{needs}
 use Rattle.walk.proofs.pass_tls_message.Statement.{statement}
@@ -17,8 +17,8 @@ enum-known-r : tie.Need-enum-known-r
 enum-known-r c = search needs
 
 returns : tie.Need-returns
-unfolding passed metAt
-returns c = rw (case headSays (c .before .before .before .parse-tls-message-head .ensures) (c .before .r .given .1))
+unfolding passed
+returns c = rw (met-no-head _ _ (case headSays (c .before .before .before .parse-tls-message-head .ensures) (c .before .r .given .1)))
 
 enum-known-h : tie.Need-enum-known-h
 enum-known-h c = search needs
@@ -39,18 +39,18 @@ enum-told : tie.Need-enum-told
 enum-told c = search needs
 
 returns-2 : tie.Need-returns-2
-unfolding passed metAt
+unfolding passed
 returns-2 c =
     let f = c .before .before .before .before in
     let g = f .before .before .before in
-    rw (case headSays (g .before .before .before .parse-tls-message-head .ensures) (g .before .h .given .1), case messageSays (rw (f .before .part-of .ensures) at (f .parse-tls-handshake-body .ensures)) (c .before .before .r2 .given .1)) (ap refused (c .inside .ensures))
+    rw (met-no-body _ _ (case headSays (g .before .before .before .parse-tls-message-head .ensures) (g .before .h .given .1)) (case messageSays (rw (f .before .part-of .ensures) at (f .parse-tls-handshake-body .ensures)) (c .before .before .r2 .given .1))) (ap refused (c .inside .ensures))
 
 returns-3 : tie.Need-returns-3
-unfolding passed metAt
+unfolding passed
 returns-3 c =
     let f = c .before .before in
     let g = f .before .before .before in
-    rw (case headSays (g .before .before .before .parse-tls-message-head .ensures) (g .before .h .given .1), case messageSays (rw (f .before .part-of .ensures) at (f .parse-tls-handshake-body .ensures)) (c .enum-told .given .1))
+    rw (met-got _ _ (case headSays (g .before .before .before .parse-tls-message-head .ensures) (g .before .h .given .1)) (case messageSays (rw (f .before .part-of .ensures) at (f .parse-tls-handshake-body .ensures)) (c .enum-told .given .1)))
 
 pub pass-tls-message-spec : {M : Type 1} → statement M
 pass-tls-message-spec =

@@ -4,7 +4,7 @@ use Rattle.refusal.specs.Answers.{refused}
 use Rattle.refusal.proofs.Told.{case}
 use Rattle.message.specs.Messages.{messageSays}
 use Rattle.envelope.specs.Heads.{headSays}
-use Rattle.envelope.specs.Opening.{metAt}
+use Rattle.envelope.proofs.Heads.{met-no-head, met-no-body, met-got}
 use Rattle.walk.specs.Walks.{nextMessage, moved}
 use borrow.Author.Needs.{needs}
 use Rattle.walk.proofs.TlsRecordWalk.next.Statement.{statement}
@@ -20,9 +20,9 @@ refuse-requires : tie.Need-refuse-requires
 refuse-requires c κs = search needs
 
 returns : tie.Need-returns
-unfolding nextMessage moved metAt
+unfolding nextMessage moved
 returns c =
-    let e = case headSays (c .before .before .before .parse-tls-message-head .ensures) (c .before .enum-told .given .1) in
+    let e = met-no-head _ _ (case headSays (c .before .before .before .parse-tls-message-head .ensures) (c .before .enum-told .given .1)) in
     (rw e (ap refused (c .refuse .ensures)), rw e)
 
 enum-known-h : tie.Need-enum-known-h
@@ -44,22 +44,20 @@ enum-known-m : tie.Need-enum-known-m
 enum-known-m c = search needs
 
 returns-2 : tie.Need-returns-2
-unfolding nextMessage moved metAt
+unfolding nextMessage moved
 returns-2 c =
     let f = c .before .before .before in
     let g = f .before .before .before in
-    let e = case headSays (g .before .before .before .parse-tls-message-head .ensures) (g .before .h .given .1) in
-    let d = case messageSays (rw (f .before .part-of .ensures) at (f .parse-tls-handshake-body .ensures)) (c .before .enum-told2 .given .1) in
-    (rw (e, d) (ap refused (c .refuse2 .ensures)), rw (e, d))
+    let e = met-no-body _ _ (case headSays (g .before .before .before .parse-tls-message-head .ensures) (g .before .h .given .1)) (case messageSays (rw (f .before .part-of .ensures) at (f .parse-tls-handshake-body .ensures)) (c .before .enum-told2 .given .1)) in
+    (rw e (ap refused (c .refuse2 .ensures)), rw e)
 
 returns-3 : tie.Need-returns-3
-unfolding nextMessage moved metAt
+unfolding nextMessage moved
 returns-3 c =
     let f = c .before .before .before in
     let g = f .before .before .before in
-    let e = case headSays (g .before .before .before .parse-tls-message-head .ensures) (g .before .h .given .1) in
-    let d = case messageSays (rw (f .before .part-of .ensures) at (f .parse-tls-handshake-body .ensures)) (c .before .m .given .1) in
-    (rw (e, d), rw (e, d))
+    let e = met-got _ _ (case headSays (g .before .before .before .parse-tls-message-head .ensures) (g .before .h .given .1)) (case messageSays (rw (f .before .part-of .ensures) at (f .parse-tls-handshake-body .ensures)) (c .before .m .given .1)) in
+    (rw e, rw e)
 
 pub next-spec : {M : Type 1} → statement M
 next-spec =
