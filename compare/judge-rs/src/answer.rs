@@ -1,6 +1,6 @@
 //! The crate's answer to a case.
 
-use crate::{case::Case, functions::*, sheet::Sheet, values};
+use crate::{case::Case, functions::*, sheet::Sheet, values, write};
 use tls_parser::nom::error::{Error, ErrorKind};
 use tls_parser::*;
 
@@ -11,6 +11,9 @@ type Sized = fn(&[u8], usize) -> Read<TlsMessageHandshake>;
 /// The numbers of the answer. Panics where the crate says what the text cannot.
 pub fn answer(case: &Case) -> Vec<u64> {
     let i = &case.input[..];
+    if is_writer(case.function) {
+        return write::answer(case);
+    }
     if let Some(length) = case.length {
         let length = usize::try_from(length).expect("a length of 64 bits");
         return told(i, sized_reader(case.function)(i, length), values::handshake);

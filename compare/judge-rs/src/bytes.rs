@@ -9,6 +9,20 @@ pub fn run(byte: u8, n: usize) -> Vec<u8> {
     vec![byte; n]
 }
 
+/// 1, 2, 3 and so on, so that a byte tells its place.
+pub fn counting(n: usize) -> Vec<u8> {
+    (1..=n).map(|k| k as u8).collect()
+}
+
+/// Bytes that count while they are few; of many only the first and the last three
+/// differ from a run.
+pub fn telling(n: usize) -> Vec<u8> {
+    if n <= 260 {
+        return counting(n);
+    }
+    join(&[&[1, 2, 3], &run(0x5a, n - 6), &[0xfd, 0xfe, 0xff]])
+}
+
 pub fn join(parts: &[&[u8]]) -> Vec<u8> {
     parts.concat()
 }

@@ -1,22 +1,34 @@
 //! How many answered cases there are, by function and by first number.
 
-use crate::functions::ALL;
+use crate::functions::{READING, WRITING};
 
-const HEADS: [&str; 8] =
-    ["accepted", "Incomplete", "Complete", "Verify", "LengthValue", "Tag", "Switch", "TooLarge"];
+/// The first numbers of answers, and what they are.
+const HEADS: [(usize, &str); 9] = [
+    (0, "accepted"),
+    (1, "Incomplete"),
+    (2, "Complete"),
+    (3, "Verify"),
+    (4, "LengthValue"),
+    (5, "Tag"),
+    (6, "Switch"),
+    (7, "TooLarge"),
+    (12, "NotYet"),
+];
+const COLUMNS: usize = HEADS.len();
+const ROWS: usize = READING.len() + WRITING.len();
 
 /// The table, with a last row of sums.
 pub fn table(lines: &[String]) -> String {
-    let mut counts = [[0usize; 8]; 25];
+    let mut counts = [[0usize; COLUMNS]; ROWS];
     for line in lines {
         let (row, column) = place(line).unwrap_or_else(|| panic!("no answered case: {line}"));
         counts[row][column] += 1;
     }
-    let mut out = row("function", HEADS.map(String::from), "all");
-    for (name, counts) in ALL.iter().zip(counts) {
+    let mut out = row("function", HEADS.map(|(_, head)| head.into()), "all");
+    for (name, counts) in READING.into_iter().chain(WRITING).zip(counts) {
         out += &row(name, counts.map(|n| n.to_string()), &counts.iter().sum::<usize>().to_string());
     }
-    let sums: [usize; 8] = std::array::from_fn(|k| counts.iter().map(|c| c[k]).sum());
+    let sums: [usize; COLUMNS] = std::array::from_fn(|k| counts.iter().map(|c| c[k]).sum());
     out + &row("all", sums.map(|n| n.to_string()), &lines.len().to_string())
 }
 
@@ -24,11 +36,12 @@ pub fn table(lines: &[String]) -> String {
 fn place(line: &str) -> Option<(usize, usize)> {
     let (case, answer) = line.split_once(" = ")?;
     let name = case.split(' ').next()?;
-    let column = answer.split(' ').next()?.parse().ok()?;
-    Some((ALL.iter().position(|known| *known == name)?, column))
+    let number: usize = answer.split(' ').next()?.parse().ok()?;
+    let row = READING.iter().chain(&WRITING).position(|known| *known == name)?;
+    Some((row, HEADS.iter().position(|(n, _)| *n == number)?))
 }
 
-fn row(name: &str, cells: [String; 8], sum: &str) -> String {
+fn row(name: &str, cells: [String; COLUMNS], sum: &str) -> String {
     let cells: String = cells.iter().map(|c| format!("{c:>12}")).collect();
     format!("{name:<44}{cells}{sum:>8}\n")
 }

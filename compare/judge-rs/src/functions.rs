@@ -1,4 +1,4 @@
-//! The reading functions by their names in the crate.
+//! The functions, readers and writers, by their names in the crate.
 
 pub const HEADER: &str = "parse_tls_record_header";
 pub const RAW: &str = "parse_tls_raw_record";
@@ -26,8 +26,17 @@ pub const NEXT: &str = "parse_tls_handshake_next_protocol";
 pub const MSG_NEXT: &str = "parse_tls_handshake_msg_next_protocol";
 pub const MSG_KEY_UPDATE: &str = "parse_tls_handshake_msg_key_update";
 
-/// All of them, in the order of the tables.
-pub const ALL: [&str; 25] = [
+pub const GEN_CLIENT_HELLO: &str = "gen_tls_clienthello";
+pub const GEN_SERVER_HELLO: &str = "gen_tls_serverhello";
+pub const GEN_DRAFT_18: &str = "gen_tls_serverhellodraft18";
+pub const GEN_CLIENT_KEY: &str = "gen_tls_clientkeyexchange";
+pub const GEN_HELLO_REQUEST: &str = "gen_tls_hellorequest";
+pub const GEN_FINISHED: &str = "gen_tls_finished";
+pub const GEN_MESSAGE: &str = "gen_tls_messagehandshake";
+pub const GEN_PLAINTEXT: &str = "gen_tls_plaintext";
+
+/// The readers, in the order of the tables.
+pub const READING: [&str; 25] = [
     HEADER,
     RAW,
     ENCRYPTED,
@@ -55,7 +64,19 @@ pub const ALL: [&str; 25] = [
     MSG_KEY_UPDATE,
 ];
 
-/// Those that take a length besides the bytes.
+/// The writers, in the order of the tables.
+pub const WRITING: [&str; 8] = [
+    GEN_CLIENT_HELLO,
+    GEN_SERVER_HELLO,
+    GEN_DRAFT_18,
+    GEN_CLIENT_KEY,
+    GEN_HELLO_REQUEST,
+    GEN_FINISHED,
+    GEN_MESSAGE,
+    GEN_PLAINTEXT,
+];
+
+/// The readers that take a length besides the bytes.
 pub const SIZED: [&str; 6] =
     [MSG_TICKET, MSG_SERVER_KEY, MSG_SERVER_DONE, MSG_VERIFY, MSG_CLIENT_KEY, MSG_FINISHED];
 
@@ -86,7 +107,11 @@ pub fn of_kind(kind: u8) -> &'static [&'static str] {
 
 /// The known name, for a case that lives on.
 pub fn known(name: &str) -> Option<&'static str> {
-    ALL.into_iter().find(|known| *known == name)
+    READING.into_iter().chain(WRITING).find(|known| *known == name)
+}
+
+pub fn is_writer(name: &str) -> bool {
+    WRITING.contains(&name)
 }
 
 pub fn is_sized(name: &str) -> bool {

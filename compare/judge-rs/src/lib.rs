@@ -1,13 +1,19 @@
-//! The judge: seeded cases for the reading functions, and the crate's answers
-//! to them in one text, so that another program can answer the same cases.
+//! The judge: seeded cases for the reading and the writing functions, and the
+//! crate's answers to them in one text, so that another program can answer the
+//! same cases.
 
 pub mod answer;
 pub mod bytes;
 pub mod case;
+pub mod container;
 pub mod count;
+pub mod domain;
 pub mod functions;
 pub mod generate;
+pub mod made;
 pub mod rng;
 pub mod sheet;
 pub mod text;
+pub mod truncations;
 pub mod values;
+pub mod write;

@@ -1,21 +1,27 @@
 //! The commands of the judge.
 
-use judge::{answer::answer, case::Case, count, generate::generate, text};
+use judge::{answer::answer, case::Case, count, generate, text, truncations};
 use std::io::{self, BufRead, BufWriter, Write};
 use std::panic::{catch_unwind, AssertUnwindSafe};
 use std::process::exit;
 
-const USAGE: &str = "judge generate SEED COUNT    prints COUNT cases
-judge answer                 reads cases, prints them with the crate's answers
-judge count                  reads answered cases, prints a table of them";
+const USAGE: &str = "judge generate SEED COUNT          prints COUNT cases of the readers
+judge generate-writes SEED COUNT   prints COUNT cases of the writers
+judge answer                       reads cases, prints them with the crate's answers
+judge count                        reads answered cases, prints a table of them
+judge truncations                  prints what the crate writes outside the domain";
 
 fn main() -> io::Result<()> {
     let words: Vec<String> = std::env::args().skip(1).collect();
     let words: Vec<&str> = words.iter().map(String::as_str).collect();
     match words[..] {
-        ["generate", seed, many] => print_cases(number(seed), number(many)),
+        ["generate", seed, many] => generate::generate(number(seed), number(many), &mut print_case()),
+        ["generate-writes", seed, many] => {
+            generate::generate_writes(number(seed), number(many), &mut print_case())
+        }
         ["answer"] => print_answers(),
         ["count"] => print_counts(),
+        ["truncations"] => write!(io::stdout(), "{}", truncations::table()),
         _ => usage(),
     }
 }
@@ -29,9 +35,9 @@ fn number(word: &str) -> u64 {
     word.parse().unwrap_or_else(|_| usage())
 }
 
-fn print_cases(seed: u64, many: u64) -> io::Result<()> {
+fn print_case() -> impl FnMut(&Case) -> io::Result<()> {
     let mut out = BufWriter::new(io::stdout().lock());
-    generate(seed, many, &mut |case| writeln!(out, "{case}"))
+    move |case| writeln!(out, "{case}")
 }
 
 fn print_answers() -> io::Result<()> {

@@ -10,7 +10,7 @@ use Rattle.client.specs.declared.TlsClientHelloContents.{TlsClientHelloC
 use Rattle.client.specs.declared.ClientHelloAnswer.{ClientHelloAnswer}
 use Rattle.client.specs.declared.ClientHelloAnswer.the-variants.{Refused, Got}
 
-client-lawful : Lawful client
+pub client-lawful : Lawful client
 client-lawful = record { suits = (refl, (tt, (tt, (tt, (tt, tt))))); handed = λ o e t. refl; block = λ o e t. refl; tail = λ o e t. refl }
 
 pub demand3 : Demand3

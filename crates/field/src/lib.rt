@@ -1,11 +1,14 @@
-// A fixed part, and a part behind its length by the rule of what it is.
+// A fixed part, and a part behind its length by the rule of what it is, read and written.
 ghost use mathlib.Core.Path.{_≡_};
 ghost use Rattle.wire.specs.Numbers.{bytesIn};
 ghost use Rattle.wire.specs.Parts.{partSays};
+ghost use Rattle.wire.specs.Puts.{room, written, writeSays};
 ghost use Rattle.field.specs.Fields.{Field, step, ruleOf};
+ghost use Rattle.field.specs.Texts.{allowed, fieldText};
 use refusal::Reason;
 use wire::number::NumberAnswer;
 use wire::number::Width;
+use wire::output::WriteAnswer;
 use wire::view::PartAnswer;
 
 // What stands behind a length, which decides the rule of its length.
@@ -76,5 +79,50 @@ pub fn length_data(s: &[u8], at: usize, w: Width, kind: Kind) -> PartAnswer
         wire::view::take_or(s, n.next, n.value, past(kind))
     } else {
         PartAnswer::Refused(refusal::refuse(broken(kind), n.next, 0))
+    }
+}
+
+// Whether `n` bytes may be written behind a length of that width.
+pub fn may_follow(w: Width, kind: Kind, n: usize) -> bool
+    ensures { λ r. ⌜ r ≡ allowed (Field.counted (bytesIn w) (ruleOf kind)) n ⌝ }
+{
+    if wire::number::width_holds(w, n) {
+        allows(kind, n)
+    } else {
+        false
+    }
+}
+
+// The refusal to write a part of another length.
+fn unfit(kind: Kind) -> Reason
+    ensures { λ r. ⌜ r ≡ ruleOf kind .unfit ⌝ }
+{
+    match kind {
+        Kind::Plain => Reason::BadLength,
+        Kind::SessionId => Reason::BadLength,
+        Kind::Ciphers => Reason::BadLength,
+        Kind::Methods => Reason::BadLength,
+        Kind::Fragment => Reason::TooLarge,
+    }
+}
+
+// Writes a part behind its length: the refusal of a length that may not be written, then NoRoom. A refusal changes no byte.
+pub fn gen_length_data(out: &mut [u8], at: usize, w: Width, kind: Kind, part: &[u8]) -> WriteAnswer
+    ensures { λ r. ⌜ writeSays r ≡ room (fieldText (Field.counted (bytesIn w) (ruleOf kind)) (now (part .entry))) at (now (out .entry)) ⌝ }
+    ensures { λ _. ⌜ now (out .exit) ≡ written (fieldText (Field.counted (bytesIn w) (ruleOf kind)) (now (part .entry))) at (now (out .entry)) ⌝ }
+{
+    let n = part.len();
+    if may_follow(w, kind, n) {
+        let count = wire::number::width_bytes(w);
+        match wire::view::take_or(out, at, count + n, Reason::NoRoom) {
+            PartAnswer::Refused(r) => WriteAnswer::Refused(r),
+            PartAnswer::Got(p) => {
+                wire::number::gen_be(out, at, w, n);
+                wire::output::gen_bytes(out, at + count, part);
+                WriteAnswer::Wrote(p.next)
+            }
+        }
+    } else {
+        WriteAnswer::Refused(refusal::refuse(unfit(kind), 0, 0))
     }
 }

@@ -12,6 +12,8 @@ use Rattle.grammar.specs.Forms.{reading}
 use Rattle.list.specs.Items.{place}
 use Rattle.client.specs.Client.{client}
 use Rattle.client.specs.declared.TlsClientHelloContents.{TlsClientHelloContents}
+use Rattle.text.specs.Hellos.{helloText}
+use Rattle.text.specs.Messages.{messageText}
 use Rattle.message.specs.declared.handshake.TlsMessageHandshake.{TlsMessageHandshake}
 use Rattle.message.specs.declared.handshake.TlsMessageHandshake.the-variants.{HelloRequest}
 use Rattle.envelope.specs.Opening.{message}
@@ -19,21 +21,25 @@ use Rattle.walk.specs.Walks.{messages}
 use Rattle.plaintext.specs.Plaintext.{plaintext}
 use Rattle.plaintext.specs.declared.TlsPlaintext.{TlsPlaintext}
 
--- what the input is read as: a ClientHello body, a message, a record, or the message at a place of a record
+-- what the input is read as: a ClientHello body, a message, a record, or the message at a place of a record; or it is read as a ClientHello body and
+-- written back
 pub data Call : Type 0 where
   asClientHello : Call
+  asWrittenBack : Call
   asMessage : Call
   asRecord : Call
   asMessageAt : ℕ → Call
 
 abbrev pub Value : Call → Type 0
 Value asClientHello = TlsClientHelloContents
+Value asWrittenBack = List ℕ
 Value asMessage = TlsMessageHandshake
 Value asRecord = TlsPlaintext
 Value (asMessageAt k) = TlsMessageHandshake
 
 abbrev pub answer : (c : Call) → List ℕ → Answer (Value c)
 answer asClientHello s = reading client s
+answer asWrittenBack s = then (reading client s) (λ c. messageText 0x01 (helloText client s c))
 answer asMessage s = message s
 answer asRecord s = plaintext s
 answer (asMessageAt k) s = then (plaintext s) (λ p. then (place k (messages (partOf s (p .msg)))) (λ x. accepted (x .says)))
@@ -75,7 +81,7 @@ allEmpty ext tail = record {
 abbrev pub row13 : List ℕ
 row13 = 0x16 ∷ 0x03 ∷ 0x03 ∷ 0x00 ∷ 0x05 ∷ 0x00 ∷ 0x00 ∷ 0x00 ∷ 0x00 ∷ 0x01 ∷ []
 
--- rows 1 to 6, 8 (also with the length 0002), 9 to 13
+-- rows 1 to 6, 8 (also with the length 0002), 9 to 13, 15
 unfoldable pub rows : List Row
 rows =
     reject asClientHello [] 1
@@ -96,6 +102,7 @@ rows =
     ∷ accept asRecord row13 (record { hdr = record { «record_type» = 0x16; version = 0x0303; len = 5 }; msg = record { start = 5; len = 5 }; count = 1; dropped = 1; next = 10 })
     ∷ accept (asMessageAt 0) row13 HelloRequest
     ∷ reject (asMessageAt 1) row13 11
+    ∷ accept asWrittenBack (H []) (0x01 ∷ 0x00 ∷ 0x00 ∷ 0x28 ∷ H (0x00 ∷ 0x00 ∷ []))
     ∷ []
 
 abbrev pub Reads : Row → Type 0

@@ -1,6 +1,6 @@
 // A recorded answer, read number by number and held against the numbers that the port gives.
-use crate::text;
-use crate::text::RepeatAnswer;
+use crate::words;
+use crate::words::RepeatAnswer;
 use norrabist::NumberAnswer;
 use norrabist::OptView;
 use norrabist::PartAnswer;
@@ -22,6 +22,8 @@ pub enum Outcome {
     WalkGoesOn,
     // a key exchange is taken apart that is recorded as it stands
     NotRaw,
+    // a byte is changed behind those that are written
+    Touched,
 }
 
 // The largest number: no part begins there.
@@ -44,6 +46,13 @@ pub struct Cursor {
     // the two numbers of a difference
     pub recorded: u64,
     pub given: u64,
+}
+
+// What came of a case: the port has not its function, its input says no value, or its answer was compared.
+pub enum Ran {
+    NotYet,
+    Bad,
+    Done(Cursor),
 }
 
 // What is read next: nothing, or a number. Either way it counts as read.
@@ -107,8 +116,8 @@ pub fn agrees(c: Cursor) -> bool {
 pub fn is_answer(line: &[u8], from: usize) -> bool {
     let mut at = from;
     while at < line.len() {
-        let end = text::place(line, at, b' ');
-        let RepeatAnswer::Got(r) = text::repeat_of(text::part(line, at, end)) else {
+        let end = words::place(line, at, b' ');
+        let RepeatAnswer::Got(r) = words::repeat_of(words::part(line, at, end)) else {
             return false;
         };
         if line.len() <= end {
@@ -141,8 +150,8 @@ fn read_number(line: &[u8], mut c: Cursor) -> Read {
     if line.len() <= at {
         return Read::End(c);
     }
-    let end = text::place(line, at, b' ');
-    let RepeatAnswer::Got(r) = text::repeat_of(text::part(line, at, end)) else {
+    let end = words::place(line, at, b' ');
+    let RepeatAnswer::Got(r) = words::repeat_of(words::part(line, at, end)) else {
         return Read::End(c);
     };
     if r.times == 0 {
@@ -232,6 +241,10 @@ pub fn stopped_part(c: Cursor, a: PartAnswer) -> Cursor {
 
 pub fn number(line: &[u8], c: Cursor, n: usize) -> Cursor {
     expect(line, c, n as u64)
+}
+
+pub fn byte(line: &[u8], c: Cursor, b: u8) -> Cursor {
+    expect(line, c, b as u64)
 }
 
 // A refusal is its number alone.

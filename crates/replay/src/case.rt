@@ -1,9 +1,9 @@
 // A line of the list, `FUNCTION LENGTH INPUT = ANSWER`, taken apart (compare/README.md).
 use crate::answer;
 use crate::names;
-use crate::text;
-use crate::text::DecimalAnswer;
-use crate::text::Filled;
+use crate::words;
+use crate::words::DecimalAnswer;
+use crate::words::Filled;
 
 pub struct Case {
     // the function's row
@@ -34,9 +34,9 @@ pub enum CaseAnswer {
 // The length argument: `-` where the function of the row takes none.
 fn length_of(row: usize, word: &[u8]) -> DecimalAnswer {
     if names::takes_length(row) {
-        return text::decimal(word);
+        return words::decimal(word);
     }
-    if text::same(word, b"-") {
+    if words::same(word, b"-") {
         return DecimalAnswer::Got(0);
     }
     DecimalAnswer::Bad
@@ -56,15 +56,15 @@ enum PartsAnswer {
 }
 
 fn parts_of(line: &[u8]) -> PartsAnswer {
-    let name = text::place(line, 0, b' ');
+    let name = words::place(line, 0, b' ');
     if line.len() <= name {
         return PartsAnswer::Bad;
     }
-    let length = text::place(line, name + 1, b' ');
+    let length = words::place(line, name + 1, b' ');
     if line.len() <= length {
         return PartsAnswer::Bad;
     }
-    let equals = text::place(line, length + 1, b'=');
+    let equals = words::place(line, length + 1, b'=');
     if line.len() <= equals {
         return PartsAnswer::Bad;
     }
@@ -90,14 +90,14 @@ fn parts_of(line: &[u8]) -> PartsAnswer {
 
 // The case of a line whose parts were found, each held to its form.
 fn case_of(line: &[u8], p: Parts, input: &mut [u8]) -> CaseAnswer {
-    let row = names::row_of(text::part(line, 0, p.name));
+    let row = names::row_of(words::part(line, 0, p.name));
     if names::ROWS <= row {
         return CaseAnswer::Bad(Fault::Name);
     }
-    let DecimalAnswer::Got(length) = length_of(row, text::behind(line, p.name, p.length)) else {
+    let DecimalAnswer::Got(length) = length_of(row, words::behind(line, p.name, p.length)) else {
         return CaseAnswer::Bad(Fault::Length);
     };
-    let Filled::To(filled) = text::unpack(text::behind(line, p.length, p.input), input) else {
+    let Filled::To(filled) = words::unpack(words::behind(line, p.length, p.input), input) else {
         return CaseAnswer::Bad(Fault::Input);
     };
     if answer::is_answer(line, p.answer) {

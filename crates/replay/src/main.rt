@@ -1,24 +1,26 @@
-// Replays recorded readings of the crate (compare/README.md): runs the port on each line of standard input and compares every number
-// of its answer with the recorded one.
+// Replays recorded readings and writings of the crate (compare/README.md): runs the port on each line of standard input and compares
+// every number of its answer with the recorded one.
 mod answer;
 mod body_values;
 mod case;
 mod cert_values;
 mod contents;
 mod hello_values;
+mod made;
 mod messages;
 mod names;
 mod records;
 mod run;
 mod tell;
-mod text;
+mod words;
+mod writes;
 
 use answer::Cursor;
+use answer::Ran;
 use case::Case;
 use case::CaseAnswer;
 use case::Fault;
 use libc::STDIN_FILENO;
-use run::Ran;
 
 // So many differences are told in full, and as many bad lines.
 const TOLD: u64 = 20;
@@ -63,7 +65,17 @@ fn difference(mut s: State, row: usize, c: Cursor) -> State {
     s
 }
 
-// A case that was understood: run, compared, counted.
+// Counts a case that was run, and tells where it differs.
+fn compared(row: usize, end: Cursor, cases: &mut [u64], differ: &mut [u64], s: State) -> State {
+    count(cases, row);
+    if answer::agrees(end) {
+        return s;
+    }
+    count(differ, row);
+    difference(s, row, end)
+}
+
+// A case that was understood: run, compared, counted. The input of a writing may still say no value.
 fn replay(
     line: &[u8],
     case: Case,
@@ -72,18 +84,14 @@ fn replay(
     differ: &mut [u64],
     mut s: State,
 ) -> State {
-    let row = case.row;
-    let Ran::Done(ran) = run::run(case, line, input) else {
-        s.not_run = answer::up(s.not_run);
-        return s;
-    };
-    let end = answer::expect_end(line, ran);
-    count(cases, row);
-    if answer::agrees(end) {
-        return s;
+    match run::run(case, line, input) {
+        Ran::NotYet => {
+            s.not_run = answer::up(s.not_run);
+            s
+        }
+        Ran::Bad => bad_line(s, Fault::Input),
+        Ran::Done(ran) => compared(case.row, answer::expect_end(line, ran), cases, differ, s),
     }
-    count(differ, row);
-    difference(s, row, end)
 }
 
 // A whole line; one that begins with `#` is a comment.
@@ -94,12 +102,12 @@ fn take_line(
     differ: &mut [u64],
     s: State,
 ) -> State {
-    if text::same(text::part(line, 0, 1), b"#") {
+    if words::same(words::part(line, 0, 1), b"#") {
         return s;
     }
     match case::read(line, input) {
         CaseAnswer::Bad(f) => bad_line(s, f),
-        CaseAnswer::Got(c) => { replay(line, c, text::part(input, 0, c.input), cases, differ, s) }
+        CaseAnswer::Got(c) => { replay(line, c, words::part(input, 0, c.input), cases, differ, s) }
     }
 }
 
@@ -119,7 +127,7 @@ fn end_line(
     if long {
         return bad_line(s, Fault::Long);
     }
-    take_line(text::part(line, 0, len), input, cases, differ, s)
+    take_line(words::part(line, 0, len), input, cases, differ, s)
 }
 
 fn take_byte(

@@ -1,10 +1,12 @@
 // Runs the function of a case by its row (names.rt): a function of the port has its line here.
 use crate::answer;
 use crate::answer::Cursor;
+use crate::answer::Ran;
 use crate::case::Case;
 use crate::contents;
 use crate::messages;
 use crate::records;
+use crate::writes;
 use norrabist::MessageAnswer;
 use norrabist::parse_tls_handshake_msg_certificate;
 use norrabist::parse_tls_handshake_msg_certificaterequest;
@@ -22,13 +24,29 @@ use norrabist::parse_tls_handshake_msg_server_hello;
 use norrabist::parse_tls_handshake_msg_serverdone;
 use norrabist::parse_tls_handshake_msg_serverkeyexchange;
 
-pub enum Ran {
-    NotYet,
-    Done(Cursor),
-}
-
 fn told(line: &[u8], c: Cursor, i: &[u8], a: MessageAnswer) -> Ran {
     Ran::Done(messages::body(line, c, i, a))
+}
+
+// The writers, which are lent `out`.
+fn run_writer(row: usize, line: &[u8], c: Cursor, i: &[u8], out: &mut [u8]) -> Ran {
+    match row {
+        25 => writes::client_hello(line, c, i, out),
+        26 => writes::server_hello(line, c, i, out),
+        27 => writes::draft18(line, c, i, out),
+        28 => writes::client_key(line, c, i, out),
+        29 => writes::hello_request(line, c, i, out),
+        30 => writes::finished(line, c, i, out),
+        31 => writes::message(line, c, i, out),
+        32 => writes::plaintext(line, c, i, out),
+        _ => Ran::NotYet,
+    }
+}
+
+// Lends them bytes that are all set before.
+fn lend(row: usize, line: &[u8], c: Cursor, i: &[u8]) -> Ran {
+    let mut out = [writes::BEFORE; writes::ROOM];
+    run_writer(row, line, c, i, &mut out)
 }
 
 // The readers of bodies that take the length `n`.
@@ -40,7 +58,7 @@ fn run_sized(row: usize, line: &[u8], c: Cursor, i: &[u8], n: usize) -> Ran {
         15 => told(line, c, i, parse_tls_handshake_msg_certificateverify(i, n)),
         16 => told(line, c, i, parse_tls_handshake_msg_clientkeyexchange(i, n)),
         19 => told(line, c, i, parse_tls_handshake_msg_finished(i, n)),
-        _ => Ran::NotYet,
+        _ => lend(row, line, c, i),
     }
 }
 

@@ -4,7 +4,7 @@ use crate::answer::Cursor;
 use crate::answer::Outcome;
 use crate::case::Fault;
 use crate::names;
-use crate::text;
+use crate::words;
 use libc::STDOUT_FILENO;
 
 fn say(words: &[u8]) {
@@ -18,7 +18,7 @@ fn say_number(n: u64) {
 fn say_name(row: usize) {
     let mut out = [0u8; names::WIDEST];
     let n = names::name(row, &mut out);
-    say(text::part(&out, 0, n));
+    say(words::part(&out, 0, n));
 }
 
 fn say_line(line: u64) {
@@ -46,6 +46,7 @@ fn say_recorded(c: Cursor) {
         Outcome::Unrecorded => say(b"nothing"),
         Outcome::WalkGoesOn => say(b"no more items"),
         Outcome::NotRaw => say(b"a raw part"),
+        Outcome::Touched => say(b"no byte behind the last"),
         _ => say_number(c.recorded),
     }
 }
@@ -64,6 +65,10 @@ fn say_given(c: Cursor) {
             say_number(c.given);
         }
         Outcome::NotRaw => say(b"another"),
+        Outcome::Touched => {
+            say(b"a byte changed there, ");
+            say_number(c.given);
+        }
         _ => say_number(c.given),
     }
 }

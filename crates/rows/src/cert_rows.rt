@@ -17,7 +17,7 @@ fn say_byte(a: NumberAnswer) {
     }
 }
 
-fn say_hex(s: &[u8]) {
+pub fn say_hex(s: &[u8]) {
     let count = s.len();
     for k in 0..count {
         say_byte(norrabist::number_at(s, Width::One, k));

@@ -1,4 +1,6 @@
-// Runs the compiled wire layer at its edges: what it prints is held to the file stdout.
+// Runs the compiled wire layer and the writers at their edges: what it prints is held to the file stdout.
+mod writers;
+
 use libc::STDOUT_FILENO;
 use norrabist::Kind;
 use norrabist::NumberAnswer;
@@ -230,4 +232,5 @@ fn main() {
     let items = [0u8, 0, 0, 1, 0xaa, 0, 2, 0xff];
     items_in(&items, Width::Two);
     items_in(&items, Width::Three);
+    writers::all();
 }

@@ -20,10 +20,10 @@ use Rattle.server.specs.declared.tlsv12.ServerHelloAnswer.{ServerHelloAn
 use Rattle.server.specs.declared.tlsv13draft18.TlsServerHelloV13Draft18Contents.{TlsServerHelloV13Draft18Contents}
 use Rattle.server.specs.declared.tlsv13draft18.Draft18Answer.{Draft18Answer}
 
-server-lawful : (hasExt : Bool) → Lawful (server hasExt)
+pub server-lawful : (hasExt : Bool) → Lawful (server hasExt)
 server-lawful hasExt = record { suits = (refl, (tt, (tt, (refl, (refl, tt))))); handed = λ o e t. refl; block = λ o e t. refl; tail = λ o e t. refl }
 
-draft18-lawful : Lawful draft18
+pub draft18-lawful : Lawful draft18
 draft18-lawful = record { suits = (refl, (tt, (refl, tt))); handed = λ o e t. refl; block = λ o e t. refl; tail = λ o e t. refl }
 
 -- each form of a listing by tests is lawful where the first is, and those after it

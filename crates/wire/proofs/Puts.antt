@@ -1,12 +1,13 @@
 -- Bytes put into a buffer, and a text written or not. Assumes nothing.
 use Prim.Native.Nat.{ℕ, zero, suc, _+_, _-_, _/_, _%_, _^_, _<_, _≤_}
-use mathlib.Core.Path.{_≡_, refl, _∙_}
+use mathlib.Core.Path.{_≡_, refl, sym, ap, _∙_}
 use mathlib.Core.List.{List, [], _∷_, _++_, append-assoc}
 use native.Mathlib.Omega.{arith}
 use native.Mathlib.Nat.{add-zero}
+use native.Mathlib.Numerals.{add-one}
 use borrow.Author.Tests.{le-leb, lt-leb, le-ltb, lt-ltb}
-use lib.ListN.{length, take, drop, set, length-append, length-drop, length-set, take-append-drop}
-use lib.Seq.{drop-at, length-take-le, drop-cons, take-set-le, drop-set-lt, getD-set-same}
+use lib.ListN.{length, getD, take, drop, set, length-append, length-drop, length-set, take-append-drop}
+use lib.Seq.{take-at, drop-at, drop-drop, length-take-le, drop-cons, set-at, take-set-le, drop-set-lt, getD-set-same, take-suc}
 use Rattle.refusal.specs.Answers.{Answer, accepted, refused, TellSame}
 use Rattle.refusal.proofs.Told.{tells-all}
 use Rattle.refusal.specs.Refusals.{refusal}
@@ -16,14 +17,51 @@ use Rattle.wire.specs.Parts.{partAt}
 use Rattle.wire.specs.Numbers.{be, bytesOf, numberAt, numberText}
 use Rattle.wire.specs.declared.view.Part.{Part}
 use Rattle.wire.specs.Puts.{put, room, written, writeSays}
-use Rattle.wire.specs.declared.number.WriteAnswer.{WriteAnswer}
-use Rattle.wire.specs.declared.number.WriteAnswer.the-variants.{Refused, Wrote}
+use Rattle.wire.specs.declared.output.WriteAnswer.{WriteAnswer}
+use Rattle.wire.specs.declared.output.WriteAnswer.the-variants.{Refused, Wrote}
 use Rattle.wire.proofs.Parts.{part-in, fits, short}
 use Rattle.wire.proofs.Numbers.{length-bytes, be-drop, be-of, number-got}
 
 pub put-nil : (d : List ℕ) (at : ℕ) → put d at [] ≡ d
 unfolding put
 put-nil d at = rw add-zero (take-append-drop at d)
+
+pub length-put : (d : List ℕ) (at : ℕ) (bs : List ℕ) → at + length bs ≤ length d → length (put d at bs) ≡ length d
+unfolding put
+length-put d at bs h = simp (length-append, length-drop, length-take-le at d (omega arith)) (omega arith)
+
+-- the front of a buffer with bytes put in
+front : (d : List ℕ) (at : ℕ) (xs : List ℕ) → at + length xs ≤ length d → length (take at d ++ xs) ≡ at + length xs
+front d at xs h = simp (length-append, length-take-le at d (omega arith))
+
+-- bytes put in right behind others
+pub put-put : (d : List ℕ) (at : ℕ) (xs ys : List ℕ) → at + length xs + length ys ≤ length d → put (put d at xs) (at + length xs) ys ≡ put d at (xs ++ ys)
+unfolding put
+put-put d at xs ys h =
+    let l = front d at xs (omega arith) in
+    let z = drop (at + length xs) d in
+    let e : take at d ++ (xs ++ z) ≡ (take at d ++ xs) ++ z = sym (append-assoc (take at d) xs z) in
+    let a : take (at + length xs) (take at d ++ (xs ++ z)) ≡ take at d ++ xs = rw e (take-at (take at d ++ xs) z _ l) in
+    let b : drop (at + length xs + length ys) (take at d ++ (xs ++ z)) ≡ drop (at + length xs + length ys) d =
+    rw (e, ← drop-drop (length ys) (at + length xs), drop-at (take at d ++ xs) z _ l, drop-drop) in
+    let n : at + length (xs ++ ys) ≡ at + length xs + length ys = rw length-append (omega arith) in
+    rw (a, b, n) (append-assoc (take at d) xs _ ∙ ap (λ (r : List ℕ). take at d ++ r) (sym (append-assoc xs ys _)))
+
+-- one byte more, behind
+set-put : (d : List ℕ) (at : ℕ) (xs : List ℕ) (y : ℕ) → at + length xs < length d → set (put d at xs) (at + length xs) y ≡ put d at (xs ++ (y ∷ []))
+unfolding put
+set-put d at xs y h =
+    let l = front d at xs (omega arith) in
+    let n : at + length (xs ++ (y ∷ [])) ≡ suc (at + length xs) = rw length-append (omega arith) in
+    rw (← append-assoc (take at d) xs (drop (at + length xs) d), drop-cons d (at + length xs) 0 h, set-at (take at d ++ xs) _ _ y _ l, n)
+    (simp append-assoc)
+
+-- a turn of the copy
+pub copy-next : (d : List ℕ) (at : ℕ) (s : List ℕ) (k : ℕ) → at + length s ≤ length d → k < length s → set (put d at (take k s)) (at + k) (getD s k 0) ≡ put d at (take (k + 1) s)
+copy-next d at s k h l =
+    let n : length (take k s) ≡ k = length-take-le k s (omega arith) in
+    let e = set-put d at (take k s) (getD s k 0) (rw n (omega arith)) in
+    rw (add-one, take-suc s k 0 l) (rw n at e)
 
 -- a byte set, and then the bytes before it
 pub put-set : (d : List ℕ) (at : ℕ) (xs : List ℕ) (y : ℕ) → at + length xs < length d → put (set d (at + length xs) y) at xs ≡ put d at (xs ++ (y ∷ []))
@@ -46,34 +84,44 @@ number-next d at (suc i) m h l =
     let p = put-set d at (bytesOf i (m / 256)) (m % 256) (rw n (omega arith)) in
     rw e (rw n at p)
 
--- what writing a number comes to
+-- what writing a text comes to
 pub record Came (t : Answer (List ℕ)) (at : ℕ) (d : List ℕ) (a : Answer ℕ) (d′ : List ℕ) : Type 0 where
   pub says : room t at d ≡ a
   pub leaves : written t at d ≡ d′
 
+pub text-refused : {t : Answer (List ℕ)} (at : ℕ) (d : List ℕ) {r : Refusal} → t ≡ refused r → Came t at d (refused r) d
+unfolding room written
+text-refused at d e = record { says = rw e; leaves = rw e }
+
+pub text-in : {t : Answer (List ℕ)} (bs : List ℕ) (at : ℕ) (d : List ℕ) {p : Part} → t ≡ accepted bs → partAt NoRoom d at (length bs) ≡ accepted p → Came t at d (accepted (p .next)) (put d at bs)
+unfolding room written
+text-in bs at d e q = record { says = rw (e, q); leaves = rw (e, le-leb (at + length bs) (length d) (fits NoRoom d at (length bs) q .inside)) }
+
+pub text-out : {t : Answer (List ℕ)} (bs : List ℕ) (at : ℕ) (d : List ℕ) {r : Refusal} → t ≡ accepted bs → partAt NoRoom d at (length bs) ≡ refused r → Came t at d (refused r) d
+unfolding room written
+text-out bs at d e q = record { says = rw (e, q); leaves = rw (e, lt-leb (at + length bs) (length d) (short NoRoom d at (length bs) q .outside)) }
+
+-- a text with room for it is put in
+pub written-in : {t : Answer (List ℕ)} (bs : List ℕ) (at : ℕ) (d : List ℕ) → t ≡ accepted bs → at + length bs ≤ length d → written t at d ≡ put d at bs
+written-in bs at d e h = text-in bs at d e (part-in NoRoom d at (length bs) h) .leaves
+
+-- and the same for a number's
+number-refused : (w n : ℕ) → 256 ^ w ≤ n → numberText w n ≡ refused (refusal BadLength 0 0)
+unfolding numberText
+number-refused w n h = rw (le-ltb n (256 ^ w) h)
+
+pub number-accepted : (w n : ℕ) → n < 256 ^ w → numberText w n ≡ accepted (bytesOf w n)
+unfolding numberText
+number-accepted w n h = rw (lt-ltb n (256 ^ w) h)
+
 pub number-over : (w n at : ℕ) (d : List ℕ) → 256 ^ w ≤ n → Came (numberText w n) at d (refused (refusal BadLength 0 0)) d
-unfolding numberText room written
-number-over w n at d h = record { says = rw (le-ltb n (256 ^ w) h); leaves = rw (le-ltb n (256 ^ w) h) }
+number-over w n at d h = text-refused at d (number-refused w n h)
 
 pub number-put : (w n at : ℕ) (d : List ℕ) {p : Part} → n < 256 ^ w → partAt NoRoom d at w ≡ accepted p → Came (numberText w n) at d (accepted (p .next)) (put d at (bytesOf w n))
-unfolding numberText room written
-number-put w n at d h e =
-    let l = length-bytes w n in
-    let f = fits NoRoom d at w e in
-    record {
-      says = rw (lt-ltb n (256 ^ w) h, l, e);
-      leaves = rw (lt-ltb n (256 ^ w) h, l, le-leb (at + w) (length d) (f .inside));
-    }
+number-put w n at d {p} h e = text-in (bytesOf w n) at d {p = p} (number-accepted w n h) (rw (length-bytes w n) e)
 
 pub number-out : (w n at : ℕ) (d : List ℕ) {r : Refusal} → n < 256 ^ w → partAt NoRoom d at w ≡ refused r → Came (numberText w n) at d (refused r) d
-unfolding numberText room written
-number-out w n at d h e =
-    let l = length-bytes w n in
-    let f = short NoRoom d at w e in
-    record {
-      says = rw (lt-ltb n (256 ^ w) h, l, e);
-      leaves = rw (lt-ltb n (256 ^ w) h, l, lt-leb (at + w) (length d) (f .outside));
-    }
+number-out w n at d {r} h e = text-out (bytesOf w n) at d {r = r} (number-accepted w n h) (rw (length-bytes w n) e)
 
 -- a number that was put in is read back
 pub number-back : (w n at : ℕ) (d : List ℕ) → n < 256 ^ w → at + w ≤ length d → numberAt w (put d at (bytesOf w n)) at ≡ accepted (record { value = n; next = at + w })

@@ -7,8 +7,8 @@ use lib.Dec.{leb}
 use Rattle.refusal.specs.Answers.{Answer, accepted, refused, then}
 use Rattle.refusal.specs.declared.Reason.the-variants.{NoRoom}
 use Rattle.wire.specs.Parts.{pick, partAt}
-use Rattle.wire.specs.declared.number.WriteAnswer.{WriteAnswer}
-use Rattle.wire.specs.declared.number.WriteAnswer.the-variants.{Refused, Wrote}
+use Rattle.wire.specs.declared.output.WriteAnswer.{WriteAnswer}
+use Rattle.wire.specs.declared.output.WriteAnswer.the-variants.{Refused, Wrote}
 
 -- a buffer with bytes put in from a place on
 unfoldable pub put : List ℕ → ℕ → List ℕ → List ℕ

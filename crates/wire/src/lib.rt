@@ -1,3 +1,4 @@
-// Bytes and lengths: a part of the bytes lent, and big-endian numbers, read and written.
+// Bytes and lengths: a part of the bytes lent, big-endian numbers read and written, and bytes copied.
 pub mod number;
+pub mod output;
 pub mod view;

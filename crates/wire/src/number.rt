@@ -1,9 +1,11 @@
 // Big-endian numbers of 1, 2, 3 and 4 bytes (RFC 5246 4.4), read and written.
 ghost use mathlib.Core.Path.{_≡_};
 ghost use Prim.Native.Nat.{_+_, _^_, _≤_, _<_};
+ghost use lib.Dec.{ltb};
 ghost use lib.ListN.{length};
 ghost use Rattle.wire.specs.Numbers.{be, bytesOf, bytesIn, numberAt, numberSays, numberText, Below};
 ghost use Rattle.wire.specs.Puts.{put, room, written, writeSays};
+use crate::output::WriteAnswer;
 use crate::view::PartAnswer;
 use refusal::Reason;
 use refusal::Refusal;
@@ -27,12 +29,6 @@ pub enum NumberAnswer {
     Got(Number),
 }
 
-// The place past what was written, or why nothing was.
-pub enum WriteAnswer {
-    Refused(Refusal),
-    Wrote(usize),
-}
-
 pub fn width_bytes(w: Width) -> usize
     ensures { λ r. ⌜ r ≡ bytesIn w ⌝ }
 {
@@ -54,6 +50,13 @@ fn limit(w: Width) -> usize
         Width::Three => 0x100_0000,
         Width::Four => 0x1_0000_0000,
     }
+}
+
+// Whether a number of that width can be `n`.
+pub fn width_holds(w: Width, n: usize) -> bool
+    ensures { λ r. ⌜ r ≡ ltb n (256 ^ bytesIn w) ⌝ }
+{
+    n < limit(w)
 }
 
 // The number of the `count` bytes from `at` on.

@@ -4,7 +4,7 @@ use super::collect::elsewhere;
 use super::damage::harm;
 use crate::bytes::{announced, join, message, record};
 use crate::case::Case;
-use crate::functions::{is_sized, of_kind, ALL, KINDS, MESSAGE, PLAINTEXT};
+use crate::functions::{is_sized, of_kind, KINDS, MESSAGE, PLAINTEXT, READING};
 use crate::rng::Rng;
 
 /// One case; a whole record that goes elsewhere is drawn again.
@@ -45,7 +45,7 @@ fn case(rng: &mut Rng, function: &'static str, input: Vec<u8>) -> Case {
 fn any(rng: &mut Rng) -> Case {
     let n = rng.below(13);
     let input = if rng.below(2) == 0 { rng.bytes(n) } else { rng.small_bytes(n) };
-    let name = rng.pick(&ALL);
+    let name = rng.pick(&READING);
     case(rng, name, input)
 }
 
@@ -66,7 +66,7 @@ fn hello(rng: &mut Rng) -> Case {
     case(rng, name, input)
 }
 
-fn hello_body(rng: &mut Rng, kind: u8) -> Vec<u8> {
+pub fn hello_body(rng: &mut Rng, kind: u8) -> Vec<u8> {
     let versions = [[3u8, 3], [3, 3], [3, 2], [3, 1], [3, 0], [3, 4], [0x7f, 0x12]];
     let version = *rng.pick(&versions);
     let head = join(&[&version, &[rng.byte(); 32]]);
@@ -101,7 +101,7 @@ fn ciphers(rng: &mut Rng) -> Vec<u8> {
 }
 
 /// A message of a type that is mostly opened, with a drawn body.
-fn drawn_message(rng: &mut Rng) -> Vec<u8> {
+pub fn drawn_message(rng: &mut Rng) -> Vec<u8> {
     let kind = if rng.below(12) == 0 { rng.byte() } else { *rng.pick(&KINDS) };
     let body = if matches!(kind, 1 | 2) {
         hello_body(rng, kind)

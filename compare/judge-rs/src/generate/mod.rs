@@ -11,22 +11,44 @@ mod lists;
 mod messages;
 mod others;
 mod records;
+mod writes;
 
-use crate::{case::Case, rng::Rng};
+use crate::{case::Case, domain, rng::Rng};
 use collect::Cases;
 use std::io;
 
-/// Hands out `many` cases; the same seed gives the same ones.
-pub fn generate(seed: u64, many: u64, out: &mut dyn FnMut(&Case) -> io::Result<()>) -> io::Result<()> {
-    let fixed = fixed();
+type Out<'a> = &'a mut dyn FnMut(&Case) -> io::Result<()>;
+
+/// Hands out `many` cases of the readers; the same seed gives the same ones.
+pub fn generate(seed: u64, many: u64, out: Out) -> io::Result<()> {
+    let good = good::cases();
+    hand_out(fixed(), seed, many, out, |rng| chance::draw(rng, &good))
+}
+
+/// Hands out `many` cases of the writers, likewise.
+pub fn generate_writes(seed: u64, many: u64, out: Out) -> io::Result<()> {
+    let messages = writes::good_messages();
+    let mut held = |case: &Case| {
+        domain::hold(case);
+        out(case)
+    };
+    hand_out(writes::fixed(), seed, many, &mut held, |rng| writes::draw(rng, &messages))
+}
+
+fn hand_out(
+    fixed: Vec<Case>,
+    seed: u64,
+    many: u64,
+    out: Out,
+    draw: impl Fn(&mut Rng) -> Case,
+) -> io::Result<()> {
     let many = usize::try_from(many).expect("a count of 64 bits");
     for case in fixed.iter().take(many) {
         out(case)?;
     }
     let mut rng = Rng::new(seed);
-    let good = good::cases();
     for _ in fixed.len()..many {
-        out(&chance::draw(&mut rng, &good))?;
+        out(&draw(&mut rng))?;
     }
     Ok(())
 }

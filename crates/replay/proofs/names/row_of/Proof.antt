@@ -8,7 +8,7 @@ abbrev Inv-loop : tie.InvT-loop
 Inv-loop word row₀ row = Unit
 
 abbrev μ-loop : tie.MeasureT-loop
-μ-loop word row₀ row = 25 - row
+μ-loop word row₀ row = 33 - row
 
 loop-holds : tie.Need-loop-holds Inv-loop μ-loop
 loop-holds c = search needs

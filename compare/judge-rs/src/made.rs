@@ -1,0 +1,144 @@
+//! Made-up values for the writers, and the bytes by which a case says them.
+
+use crate::bytes::join;
+use crate::container::{Heard, Said};
+
+#[derive(Clone, Copy)]
+pub struct Client<'a> {
+    pub version: u16,
+    pub random: &'a [u8],
+    pub id: Option<&'a [u8]>,
+    /// Two bytes for each.
+    pub ciphers: &'a [u8],
+    pub methods: &'a [u8],
+    pub ext: Option<&'a [u8]>,
+}
+
+#[derive(Clone, Copy)]
+pub struct Server<'a> {
+    pub version: u16,
+    pub cipher: u16,
+    pub compression: u8,
+    pub random: &'a [u8],
+    pub id: Option<&'a [u8]>,
+    pub ext: Option<&'a [u8]>,
+}
+
+/// The ServerHello of draft 18.
+#[derive(Clone, Copy)]
+pub struct Draft<'a> {
+    pub version: u16,
+    pub cipher: u16,
+    pub random: &'a [u8],
+    pub ext: Option<&'a [u8]>,
+}
+
+/// A client key exchange; the number of the form is its first byte.
+#[derive(Clone, Copy)]
+pub enum Key<'a> {
+    Unknown(&'a [u8]),
+    Dh(&'a [u8]),
+    Ecdh(&'a [u8]),
+}
+
+/// A record round messages already written.
+#[derive(Clone, Copy)]
+pub struct Record<'a> {
+    pub kind: u8,
+    pub version: u16,
+    pub content: &'a [u8],
+}
+
+impl<'a> Client<'a> {
+    pub fn bytes(&self) -> Vec<u8> {
+        let mut said = Said::default();
+        said.number(2, self.version);
+        said.part(self.random);
+        said.optional(self.id);
+        said.part(self.ciphers);
+        said.part(self.methods);
+        said.optional(self.ext);
+        said.bytes()
+    }
+
+    pub fn read(i: &'a [u8]) -> Self {
+        let mut heard = Heard::new(i, 24);
+        let version = heard.number(2) as u16;
+        let (random, id) = (heard.part(), heard.optional());
+        let (ciphers, methods) = (heard.part(), heard.part());
+        let ext = heard.optional();
+        heard.end();
+        Client { version, random, id, ciphers, methods, ext }
+    }
+}
+
+impl<'a> Server<'a> {
+    pub fn bytes(&self) -> Vec<u8> {
+        let mut said = Said::default();
+        said.number(2, self.version);
+        said.number(2, self.cipher);
+        said.number(1, self.compression);
+        said.part(self.random);
+        said.optional(self.id);
+        said.optional(self.ext);
+        said.bytes()
+    }
+
+    pub fn read(i: &'a [u8]) -> Self {
+        let mut heard = Heard::new(i, 19);
+        let (version, cipher) = (heard.number(2) as u16, heard.number(2) as u16);
+        let compression = heard.number(1) as u8;
+        let (random, id, ext) = (heard.part(), heard.optional(), heard.optional());
+        heard.end();
+        Server { version, cipher, compression, random, id, ext }
+    }
+}
+
+impl<'a> Draft<'a> {
+    pub fn bytes(&self) -> Vec<u8> {
+        let mut said = Said::default();
+        said.number(2, self.version);
+        said.number(2, self.cipher);
+        said.part(self.random);
+        said.optional(self.ext);
+        said.bytes()
+    }
+
+    pub fn read(i: &'a [u8]) -> Self {
+        let mut heard = Heard::new(i, 13);
+        let (version, cipher) = (heard.number(2) as u16, heard.number(2) as u16);
+        let (random, ext) = (heard.part(), heard.optional());
+        heard.end();
+        Draft { version, cipher, random, ext }
+    }
+}
+
+impl<'a> Key<'a> {
+    pub fn bytes(&self) -> Vec<u8> {
+        match self {
+            Key::Unknown(b) => join(&[&[0], b]),
+            Key::Dh(b) => join(&[&[1], b]),
+            Key::Ecdh(b) => join(&[&[2], b]),
+        }
+    }
+
+    pub fn read(i: &'a [u8]) -> Self {
+        match i {
+            [0, rest @ ..] => Key::Unknown(rest),
+            [1, rest @ ..] => Key::Dh(rest),
+            [2, rest @ ..] => Key::Ecdh(rest),
+            _ => panic!("no form of a key exchange"),
+        }
+    }
+}
+
+impl<'a> Record<'a> {
+    pub fn bytes(&self) -> Vec<u8> {
+        join(&[&[self.kind], &self.version.to_be_bytes(), self.content])
+    }
+
+    pub fn read(i: &'a [u8]) -> Self {
+        let [kind, high, low, content @ ..] = i else { panic!("no record") };
+        Record { kind: *kind, version: u16::from_be_bytes([*high, *low]), content }
+    }
+}

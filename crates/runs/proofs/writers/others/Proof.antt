@@ -1,0 +1,48 @@
+-- `runs::writers::others` is safe and ends: each turn leaves one place less. Assumes nothing.
+use Prim.Native.Nat.{_-_}
+use native.Mathlib.Omega.{arith}
+use borrow.Author.Needs.{needs}
+use borrow.Author.Tests.{ltb-true}
+use Rattle.runs.proofs.writers.others.Statement.{statement}
+use Rattle.runs.proofs.writers.others.Tie as tie
+
+abbrev Inv-loop : tie.InvT-loop
+Inv-loop out n₀ k₀ k-end n k = Unit
+
+abbrev μ-loop : tie.MeasureT-loop
+μ-loop out n₀ k₀ k-end n k = k-end - k
+
+loop-holds : tie.Need-loop-holds Inv-loop μ-loop
+loop-holds c = search needs
+
+shared-slice-read-if1 : tie.Need-shared-slice-read-if1 Inv-loop μ-loop
+shared-slice-read-if1 c = search needs
+
+add-n : tie.Need-add-n Inv-loop μ-loop
+add-n c = omega (arith, ltb-true)
+
+add-k : tie.Need-add-k Inv-loop μ-loop
+add-k c = search needs
+
+loop-less : tie.Need-loop-less Inv-loop μ-loop
+loop-less c = search needs
+
+loop-again : tie.Need-loop-again Inv-loop μ-loop
+loop-again c = search needs
+
+returns : tie.Need-returns Inv-loop μ-loop
+returns c = search needs
+
+pub others-spec : {M : Type 1} → statement M
+others-spec =
+    tie.close
+    (tie.spec
+    Inv-loop
+    μ-loop
+    loop-holds
+    shared-slice-read-if1
+    add-n
+    add-k
+    loop-less
+    loop-again
+    returns)

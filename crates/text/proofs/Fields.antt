@@ -1,0 +1,47 @@
+-- Fields written one behind the other: a writer's proof begins with the whole text, takes one field off it for each call, and ends with none.
+-- Assumes nothing.
+use Prim.Native.Nat.{ℕ, _+_, _≤_}
+use mathlib.Core.Path.{_≡_, refl, _∙_}
+use mathlib.Core.List.{List, [], _∷_, _++_, append-assoc}
+use native.Mathlib.Omega.{arith}
+use lib.ListN.{length, length-append}
+use Rattle.refusal.specs.Answers.{Answer, accepted}
+use Rattle.wire.specs.Puts.{put, written}
+use Rattle.wire.proofs.Puts.{put-put, length-put, written-in}
+use Rattle.field.specs.Fields.{Field}
+use Rattle.field.specs.Standing.{fieldBytes}
+use Rattle.grammar.specs.Grammars.{Each}
+use Rattle.grammar.specs.Splits.{join}
+
+-- what is left to put into the buffer so far, from a place on; put in, the whole text is in the buffer lent
+pub record Left (d whole out : List ℕ) (at : ℕ) (rest : List ℕ) : Type 0 where
+  pub is : put out at rest ≡ put d 0 whole
+  pub fits : at + length rest ≤ length out
+
+pub begin : (d whole : List ℕ) → length whole ≤ length d → Left d whole d 0 whole
+begin d whole h = record { is = refl; fits = omega arith }
+
+-- one text more
+pub next : {d whole out : List ℕ} {at : ℕ} (x rest : List ℕ) → Left d whole out at (x ++ rest) → {t : Answer (List ℕ)} → t ≡ accepted x → (out′ : List ℕ) (at′ : ℕ)
+    → out′ ≡ written t at out → at′ ≡ at + length x → Left d whole out′ at′ rest
+next {d} {whole} {out} {at} x rest l {t} e out′ at′ q n =
+    let a : length (x ++ rest) ≡ length x + length rest = length-append x rest in
+    let h : at + length x + length rest ≤ length out = omega (arith, a, l .fits) in
+    let p : out′ ≡ put out at x = q ∙ written-in x at out e (omega arith) in
+    let m : length out′ ≡ length out = rw p (length-put out at x (omega arith)) in
+    record { is = rw (p, n, put-put out at x rest h) (l .is); fits = omega (arith, m, n) }
+
+-- one field more
+pub and : {d whole out : List ℕ} {at : ℕ} (f : Field) (fs : List Field) (p : List ℕ) (ps : Each (List ℕ) fs) (z : List ℕ) → Left d whole out at (join (f ∷ fs) (p, ps) ++ z)
+    → {t : Answer (List ℕ)} → t ≡ accepted (fieldBytes f p) → (out′ : List ℕ) (at′ : ℕ) → out′ ≡ written t at out → at′ ≡ at + length (fieldBytes f p) → Left d whole out′ at′ (join fs ps ++ z)
+unfolding join
+and f fs p ps z l e out′ at′ q n = next (fieldBytes f p) (join fs ps ++ z) (rw (append-assoc (fieldBytes f p) (join fs ps) z) at l) e out′ at′ q n
+
+-- no field more
+pub last : {d whole out : List ℕ} {at : ℕ} (z : List ℕ) → Left d whole out at (join [] tt ++ z) → Left d whole out at z
+unfolding join
+last z l = l
+
+-- the last text
+pub end : {d whole out : List ℕ} {at : ℕ} {x : List ℕ} → Left d whole out at x → {t : Answer (List ℕ)} → t ≡ accepted x → (out′ : List ℕ) → out′ ≡ written t at out → out′ ≡ put d 0 whole
+end {out = out} {at = at} {x = x} l e out′ q = q ∙ written-in x at out e (l .fits) ∙ l .is

@@ -1,0 +1,4 @@
+pub mod Parts
+pub mod Hellos
+pub mod Fields
+pub mod Messages

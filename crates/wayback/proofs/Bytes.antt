@@ -1,0 +1,75 @@
+-- Bytes made of bytes: those of a number, of a part, and of one text behind the other; so the text of a hello is of bytes where those lent with
+-- the value are. Assumes nothing.
+use Prim.Native.Nat.{ℕ, zero, suc, _+_, _/_, _%_}
+use mathlib.Core.List.{List, [], _∷_, _++_}
+use mathlib.Core.Bool.{Bool, true, false}
+use native.Mathlib.Omega.{arith}
+use lib.ListN.{length, take, drop}
+use lib.Seq.{getD-drop}
+use lib.Dec.{leb}
+use Rattle.wire.specs.Numbers.{Bytes, bytesOf}
+use Rattle.wire.specs.Parts.{pick, partOf, optPartOf}
+use Rattle.wire.specs.declared.view.View.{View}
+use Rattle.wire.specs.declared.view.OptView.{OptView}
+use Rattle.wire.specs.declared.view.OptView.the-variants.{Absent, Present}
+use Rattle.field.specs.Fields.{Field, fixed, counted}
+use Rattle.field.specs.Standing.{fieldBytes}
+use Rattle.grammar.specs.Grammars.{Each}
+use Rattle.grammar.specs.Splits.{join}
+use Rattle.grammar.specs.Hellos.{extensions}
+use Rattle.grammar.specs.Forms.{Form, How, asView, asPart, asNumber, Out, Outs, named, allNamed}
+use Rattle.text.specs.Hellos.{helloBytes}
+
+no-bytes : Bytes []
+no-bytes i = omega arith
+
+pub bytes-append : (xs ys : List ℕ) → Bytes xs → Bytes ys → Bytes (xs ++ ys)
+bytes-append [] ys a b i = b i
+bytes-append (x ∷ xs) ys a b zero = a 0
+bytes-append (x ∷ xs) ys a b (suc i) = bytes-append xs ys (λ j. a (suc j)) b i
+
+one-byte : (n : ℕ) → Bytes (n % 256 ∷ [])
+one-byte n zero = omega arith
+one-byte n (suc i) = omega arith
+
+pub bytes-number : (w n : ℕ) → Bytes (bytesOf w n)
+unfolding bytesOf
+bytes-number zero n = no-bytes
+bytes-number (suc w) n = bytes-append (bytesOf w (n / 256)) (n % 256 ∷ []) (bytes-number w (n / 256)) (one-byte n)
+
+bytes-take : (n : ℕ) (s : List ℕ) → Bytes s → Bytes (take n s)
+bytes-take zero s b i = omega arith
+bytes-take (suc n) [] b i = omega arith
+bytes-take (suc n) (x ∷ s) b zero = b 0
+bytes-take (suc n) (x ∷ s) b (suc i) = bytes-take n s (λ j. b (suc j)) i
+
+pub bytes-part : (s : List ℕ) (v : View) → Bytes s → Bytes (partOf s v)
+bytes-part s v b = go (leb (v .start + v .len) (length s))
+  where
+    go : (t : Bool) → Bytes (pick t (take (v .len) (drop (v .start) s)) [])
+    go true = bytes-take (v .len) (drop (v .start) s) (λ i. rw getD-drop (b (v .start + i)))
+    go false = no-bytes
+
+bytes-opt : (s : List ℕ) (o : OptView) → Bytes s → Bytes (optPartOf s o)
+bytes-opt s Absent b = no-bytes
+bytes-opt s (Present v) b = bytes-part s v b
+
+bytes-named : (m : How) (s : List ℕ) (o : Out m) → Bytes s → Bytes (named m s o)
+bytes-named asView s v b = bytes-part s v b
+bytes-named asPart s o b = bytes-opt s o b
+bytes-named (asNumber w) s n b = bytes-number w n
+
+pub bytes-field : (f : Field) (p : List ℕ) → Bytes p → Bytes (fieldBytes f p)
+bytes-field (fixed n) p b = b
+bytes-field (counted w r) p b = bytes-append (bytesOf w (length p)) p (bytes-number w (length p)) b
+
+bytes-join : (fs : List Field) (ms : Each How fs) (s : List ℕ) (os : Outs fs ms) → Bytes s → Bytes (join fs (allNamed fs ms s os))
+unfolding join
+bytes-join [] ms s os b = no-bytes
+bytes-join (f ∷ fs) (m, ms) s (o, os) b = bytes-append (fieldBytes f (named m s o)) _ (bytes-field f (named m s o) (bytes-named m s o b)) (bytes-join fs ms s os b)
+
+pub hello-bytes : {C : Type 0} (k : Form C) (s : List ℕ) (c : C) → Bytes s → Bytes (helloBytes k s c)
+unfolding helloBytes
+hello-bytes k s c b =
+    bytes-append (join (k .grammar .fields) (allNamed (k .grammar .fields) (k .how) s (k .handed c))) _
+    (bytes-join (k .grammar .fields) (k .how) s (k .handed c) b) (bytes-field extensions (optPartOf s (k .block c)) (bytes-opt s (k .block c) b))

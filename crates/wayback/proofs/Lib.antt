@@ -1,0 +1,5 @@
+pub mod Bytes
+pub mod Wrote
+pub mod Hellos
+pub mod Demand3
+pub mod WayBack

@@ -1,0 +1,59 @@
+-- A text that was written: what held of the value, and which bytes the text is. Assumes nothing.
+use Prim.Native.Nat.{ℕ}
+use mathlib.Core.Path.{_≡_, refl, _∙_, ap}
+use mathlib.Core.List.{List, _++_}
+use mathlib.Core.Bool.{Bool, true, false}
+use lib.ListN.{length}
+use Rattle.refusal.specs.Answers.{Answer, accepted, refused, then}
+use Rattle.refusal.specs.declared.Refusal.{Refusal}
+use Rattle.refusal.proofs.Then.{not-both, then-accepted}
+use Rattle.wire.specs.Parts.{pick, partOf}
+use Rattle.wire.specs.Numbers.{bytesOf}
+use Rattle.wire.specs.declared.view.View.{View}
+use Rattle.field.specs.Fields.{Field}
+use Rattle.field.specs.Standing.{fieldBytes, Obeys}
+use Rattle.field.specs.Texts.{allowed, fieldText}
+use Rattle.field.proofs.Texts.{obeys}
+use Rattle.grammar.specs.Forms.{Form}
+use Rattle.text.specs.Hellos.{inside, mayWrite, helloBytes, helloText}
+use Rattle.text.specs.Messages.{sized, messageText, viewText, sizedText}
+use Rattle.text.proofs.Hellos.{Obeyed, obeyed}
+
+-- the bytes, by a test
+pub picked : {A : Type 0} (t : Bool) {a b : A} (r : Refusal) → pick t (accepted a) (refused r) ≡ accepted b → (t ≡ true) × (a ≡ b)
+picked true {a} {b} r e = let d : accepted a ≡ accepted b = e in (refl, cc)
+picked false r e = absurd (not-both e refl)
+
+pub hello-wrote : {C : Type 0} (k : Form C) (s : List ℕ) (c : C) {b : List ℕ} → helloText k s c ≡ accepted b → Obeyed k s c × (helloBytes k s c ≡ b)
+unfolding helloText
+hello-wrote k s c e = let q = picked (mayWrite k s c) _ e in (obeyed k s c (q .0), q .1)
+
+field-wrote : (f : Field) (p : List ℕ) {b : List ℕ} → fieldText f p ≡ accepted b → Obeys f p × (fieldBytes f p ≡ b)
+unfolding fieldText
+field-wrote f p e = let q = picked (allowed f (length p)) _ e in (obeys f p (q .0), q .1)
+
+pub view-wrote : (s : List ℕ) (v : View) {b : List ℕ} → viewText s v ≡ accepted b → partOf s v ≡ b
+unfolding viewText
+view-wrote s v e = picked (inside s v) _ e .1
+
+pub sized-wrote : (w : ℕ) (s : List ℕ) (v : View) {b : List ℕ} → sizedText w s v ≡ accepted b → fieldBytes (sized w) (partOf s v) ≡ b
+unfolding sizedText
+sized-wrote w s v e =
+    let t = then-accepted (viewText s v) (λ p. fieldText (sized w) p) e in
+    rw (view-wrote s v (t .1)) (field-wrote (sized w) (t .0) (t .2) .1)
+
+-- a message's body, and the message: type, length and body
+pub record Body (kind : ℕ) (body : Answer (List ℕ)) (t : List ℕ) : Type 0 where
+  pub bytes : List ℕ
+  pub is : body ≡ accepted bytes
+  pub obeys : Obeys (sized 3) bytes
+  pub whole : bytesOf 1 kind ++ fieldBytes (sized 3) bytes ≡ t
+
+pub message-wrote : (kind : ℕ) (body : Answer (List ℕ)) {t : List ℕ} → messageText kind body ≡ accepted t → Body kind body t
+unfolding messageText
+message-wrote kind body {t} e =
+    let u = then-accepted body (λ b. then (fieldText (sized 3) b) (λ x. accepted (bytesOf 1 kind ++ x))) e in
+    let w = then-accepted (fieldText (sized 3) (u .0)) (λ x. accepted (bytesOf 1 kind ++ x)) (u .2) in
+    let f = field-wrote (sized 3) (u .0) (w .1) in
+    let d : bytesOf 1 kind ++ w .0 ≡ t = cc (w .2) in
+    record { bytes = u .0; is = u .1; obeys = f .0; whole = ap (λ (x : List ℕ). bytesOf 1 kind ++ x) (f .1) ∙ d }

@@ -1,0 +1,3 @@
+pub mod Hellos
+pub mod Demand3
+pub mod WayBack
