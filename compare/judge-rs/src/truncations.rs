@@ -1,4 +1,4 @@
-//! What the crate writes for the smallest values that may not be written.
+//! What the crate writes for values just outside of what may be written.
 
 use crate::bytes::run;
 use crate::made::{Client, Draft, Key, Record, Server};

@@ -6,7 +6,7 @@ use mathlib.Core.Bool.{Bool, true, false}
 use native.Mathlib.Omega.{arith}
 use native.Mathlib.Nat.{pow-le-pow-right}
 use borrow.Author.Tests.{eqb-true, ltb-true, eq-eqb, lt-ltb}
-use lib.ListN.{length, length-append}
+use lib.ListN.{length}
 use Rattle.refusal.specs.Answers.{accepted, refused}
 use Rattle.refusal.specs.Refusals.{refusal}
 use Rattle.refusal.specs.declared.Reason.the-variants.{NoRoom}
@@ -20,6 +20,7 @@ use Rattle.wire.proofs.Numbers.{length-bytes}
 use Rattle.wire.proofs.Puts.{Came, text-refused, text-in, text-out, written-in, number-accepted, length-put, put-put}
 use Rattle.field.specs.Fields.{Field, fixed, counted, Rule}
 use Rattle.field.specs.Standing.{fieldBytes, Obeys}
+use Rattle.field.proofs.Steps.{length-counted}
 use Rattle.field.specs.Texts.{both, allowed, unfit, fieldText}
 
 pub both-true : (a b : Bool) → both a b ≡ true → (a ≡ true) × (b ≡ true)
@@ -45,9 +46,6 @@ text-not f p e = rw e
 
 pub text-obeys : (f : Field) (p : List ℕ) → Obeys f p → fieldText f p ≡ accepted (fieldBytes f p)
 text-obeys f p o = text-may f p (obeyed f p o)
-
-pub length-counted : (w : ℕ) (r : Rule) (p : List ℕ) → length (fieldBytes (counted w r) p) ≡ w + length p
-length-counted w r p = simp (length-append, length-bytes)
 
 -- with its length, a part that may be written can be counted
 pub below : (w : ℕ) (r : Rule) (n : ℕ) → w ≤ 4 → allowed (counted w r) n ≡ true → n < 4294967296

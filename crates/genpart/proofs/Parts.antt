@@ -24,7 +24,8 @@ use Rattle.field.specs.Fields.{ruleOf}
 use Rattle.field.specs.declared.Kind.the-variants.{Plain}
 use Rattle.field.specs.Standing.{fieldBytes}
 use Rattle.field.specs.Texts.{both, allowed, fieldText}
-use Rattle.field.proofs.Texts.{both-true, text-may, text-not, length-counted}
+use Rattle.field.proofs.Steps.{length-counted}
+use Rattle.field.proofs.Texts.{both-true, text-may, text-not}
 use Rattle.grammar.specs.Forms.{asView}
 use Rattle.text.specs.Hellos.{inside, mayStand}
 use Rattle.text.specs.Messages.{sized, headText, messageText, viewText, sizedText}

@@ -55,7 +55,7 @@ fn gen_sized(kind: u8, w: Width, v: View, i: &[u8], out: &mut [u8]) -> WriteAnsw
     }
 }
 
-// Each writer: BadLength, then NoRoom. A refusal changes no byte.
+// BadLength, then NoRoom. A refusal changes no byte.
 pub fn gen_tls_clientkeyexchange(
     m: TlsClientKeyExchangeContents,
     i: &[u8],
@@ -71,6 +71,7 @@ pub fn gen_tls_clientkeyexchange(
     }
 }
 
+// Four bytes, or NoRoom. A refusal changes no byte.
 pub fn gen_tls_hellorequest(out: &mut [u8]) -> WriteAnswer
     ensures { λ r. ⌜ writeSays r ≡ room (messageText 0x00 (Answer.accepted [])) 0 (now (out .entry)) ⌝ }
     ensures { λ _. ⌜ now (out .exit) ≡ written (messageText 0x00 (Answer.accepted [])) 0 (now (out .entry)) ⌝ }
@@ -78,6 +79,7 @@ pub fn gen_tls_hellorequest(out: &mut [u8]) -> WriteAnswer
     text::gen_head(out, 0x00, 0)
 }
 
+// BadLength, then NoRoom. A refusal changes no byte.
 pub fn gen_tls_finished(m: View, i: &[u8], out: &mut [u8]) -> WriteAnswer
     ensures { λ r. ⌜ writeSays r ≡ room (messageText 0x14 (viewText (now (i .entry)) m)) 0 (now (out .entry)) ⌝ }
     ensures { λ _. ⌜ now (out .exit) ≡ written (messageText 0x14 (viewText (now (i .entry)) m)) 0 (now (out .entry)) ⌝ }

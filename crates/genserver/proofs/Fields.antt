@@ -13,7 +13,8 @@ use Rattle.wire.proofs.Numbers.{length-bytes}
 use Rattle.wire.proofs.Puts.{number-accepted}
 use Rattle.field.specs.Standing.{fieldBytes}
 use Rattle.field.specs.Texts.{fieldText}
-use Rattle.field.proofs.Texts.{length-counted, text-obeys}
+use Rattle.field.proofs.Steps.{length-counted}
+use Rattle.field.proofs.Texts.{text-obeys}
 use Rattle.grammar.specs.Hellos.{version, random, sessionId, cipher, compression, extensions}
 use Rattle.server.specs.Server.{server}
 use Rattle.server.specs.declared.tlsv12.TlsServerHelloContents.{TlsServerHelloContents}

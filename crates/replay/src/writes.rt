@@ -1,4 +1,4 @@
-// The writers against what the crate writes: how many bytes, each of them, and no other.
+// The writers against what the crate writes: how many bytes, each of them, and that the byte behind them is as it was lent.
 use crate::answer;
 use crate::answer::Cursor;
 use crate::answer::Outcome;

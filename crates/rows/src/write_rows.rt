@@ -59,9 +59,10 @@ pub fn backs() {
     client(b"15", b"H into 44 bytes", &s, &mut just);
     let mut short = [0xaau8; 43];
     client(b"15", b"H into 43 bytes", &s, &mut short);
+    let mut other = [0xaau8; 44];
     s[1] = 0;
     s[36] = 0x2f;
-    server(b"0300 Z 00 002f 00 into 44 bytes", &s, &mut just);
+    server(b"0300 Z 00 002f 00 into 44 bytes", &s, &mut other);
 }
 
 // A kind that is not written comes before a view outside, and that before the room.

@@ -199,6 +199,7 @@ fn servers(s: &[u8], out: &mut [u8]) {
     server(32, 32, 65_535, 65_610, s, out);
     server(32, 33, 0, 0, s, out);
     server(0, 0, 0, MOST, s, out);
+    server(32, 0, 65_536, MOST, s, out);
 }
 
 fn drafts(s: &[u8], out: &mut [u8]) {
@@ -206,6 +207,7 @@ fn drafts(s: &[u8], out: &mut [u8]) {
     draft18(32, 65_535, 65_576, s, out);
     draft18(32, 65_536, MOST, s, out);
     draft18(31, 0, MOST, s, out);
+    draft18(33, 0, MOST, s, out);
 }
 
 fn exchanges(s: &[u8], out: &mut [u8]) {

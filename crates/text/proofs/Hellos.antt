@@ -48,7 +48,7 @@ pub hello-may : {C : Type 0} (k : Form C) (s : List ℕ) (c : C) → mayWrite k 
 unfolding helloText
 hello-may k s c e = rw e
 
-pub hello-not : {C : Type 0} (k : Form C) (s : List ℕ) (c : C) → mayWrite k s c ≡ false → helloText k s c ≡ refused (refusal BadLength 0 0)
+hello-not : {C : Type 0} (k : Form C) (s : List ℕ) (c : C) → mayWrite k s c ≡ false → helloText k s c ≡ refused (refusal BadLength 0 0)
 unfolding helloText
 hello-not k s c e = rw e
 

@@ -29,7 +29,7 @@ use Rattle.text.proofs.Fields.{begin, next, end}
 abbrev pub headBytes : ℕ → ℕ → List ℕ
 headBytes kind n = bytesOf 1 kind ++ bytesOf 3 n
 
-pub length-head : (kind n : ℕ) → length (headBytes kind n) ≡ 4
+length-head : (kind n : ℕ) → length (headBytes kind n) ≡ 4
 length-head kind n = simp (length-append, length-bytes)
 
 pub head-is : (kind n : ℕ) → n < 16777216 → headText kind n ≡ accepted (headBytes kind n)
@@ -62,7 +62,7 @@ message-is kind b e h =
     let f = text-may (sized 3) b (rw (lt-ltb (length b) 16777216 h)) in
     rw (e, f) (ap accepted (sym (append-assoc (bytesOf 1 kind) (bytesOf 3 (length b)) b)))
 
-pub length-message : (kind : ℕ) (b : List ℕ) → length (headBytes kind (length b) ++ b) ≡ 4 + length b
+length-message : (kind : ℕ) (b : List ℕ) → length (headBytes kind (length b) ++ b) ≡ 4 + length b
 length-message kind b = rw (length-append, length-head kind (length b))
 
 -- bytes put in right before others

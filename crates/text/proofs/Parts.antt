@@ -13,7 +13,7 @@ use Rattle.field.specs.Texts.{both, allowed}
 use Rattle.grammar.specs.Forms.{asView}
 use Rattle.text.specs.Hellos.{inside, mayStand}
 
-pub part-length : (s : List ℕ) (v : View) → inside s v ≡ true → length (partOf s v) ≡ v .len
+part-length : (s : List ℕ) (v : View) → inside s v ≡ true → length (partOf s v) ≡ v .len
 part-length s v e =
     let h : v .start + v .len ≤ length s = leb-true _ _ e in
     rw (e, length-take, length-drop) (omega arith)

@@ -1,5 +1,6 @@
 -- What is written of a hello: document 01, "What may be written". A text is the finished bytes, or the refusal to write any. The bytes are the
--- fields by which the hello is read, joined in order, and then the extensions: "absent extensions write 00 00".
+-- fields by which the hello is read, joined in order, and then the extensions: "absent extensions write 00 00". Its limits (random exactly 32, id at
+-- most 32, ciphers even and at most 65,534, methods at most 255, extensions at most 65,535) are the rules of the fields, `grammar/specs/Hellos.antt`.
 use Prim.Native.Nat.{ℕ, _+_}
 use mathlib.Core.List.{List, [], _∷_, _++_}
 use mathlib.Core.Bool.{Bool, true}
@@ -38,11 +39,14 @@ abbrev pub allMay : (fs : List Field) (ms : Each How fs) → List ℕ → Outs f
 allMay [] ms s os = true
 allMay (f ∷ fs) (m, ms) s (o, os) = both (mayStand f m s o) (allMay fs ms s os)
 
+-- a hello may be written where each of its parts may, and its extensions
 unfoldable pub mayWrite : {C : Type 0} → Form C → List ℕ → C → Bool
 mayWrite k s c = both (allMay (k .grammar .fields) (k .how) s (k .handed c)) (mayStand extensions asPart s (k .block c))
 
+-- the fields joined, and the extensions
 unfoldable pub helloBytes : {C : Type 0} → Form C → List ℕ → C → List ℕ
 helloBytes k s c = join (k .grammar .fields) (allNamed (k .grammar .fields) (k .how) s (k .handed c)) ++ fieldBytes extensions (optPartOf s (k .block c))
 
+-- the bytes, or BadLength
 unfoldable pub helloText : {C : Type 0} → Form C → List ℕ → C → Answer (List ℕ)
 helloText k s c = pick (mayWrite k s c) (accepted (helloBytes k s c)) (refused (refusal BadLength 0 0))

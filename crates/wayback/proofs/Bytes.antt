@@ -43,7 +43,7 @@ bytes-take (suc n) [] b i = omega arith
 bytes-take (suc n) (x ∷ s) b zero = b 0
 bytes-take (suc n) (x ∷ s) b (suc i) = bytes-take n s (λ j. b (suc j)) i
 
-pub bytes-part : (s : List ℕ) (v : View) → Bytes s → Bytes (partOf s v)
+bytes-part : (s : List ℕ) (v : View) → Bytes s → Bytes (partOf s v)
 bytes-part s v b = go (leb (v .start + v .len) (length s))
   where
     go : (t : Bool) → Bytes (pick t (take (v .len) (drop (v .start) s)) [])

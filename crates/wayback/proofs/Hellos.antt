@@ -93,7 +93,7 @@ before s xs ys n h e =
 
 -- a hello that was read, and may be written
 module _ {C : Type 0} (k : Form C) (law : Lawful k) (ofHello : OfHello (k .grammar .block)) (body : List ℕ) (bytes : Bytes body) (c : C) (e : reading k body ≡ accepted c) where
-  pub may-write : mayWrite k body c ≡ true
+  may-write : mayWrite k body c ≡ true
   unfolding mayWrite
   may-write =
       let t = by-split k law body bytes in
@@ -104,7 +104,7 @@ module _ {C : Type 0} (k : Form C) (law : Lawful k) (ofHello : OfHello (k .gramm
       rw (f .0) (may extensions asPart body (k .block c) (l .0) (last-obeys (k .grammar .block) ofHello body (k .block c) _ (y .last)))
 
   -- its bytes are those before the tail, and then 00 00 if there were no extensions
-  pub hello-back : helloBytes k body c ≡ take (k .tail c) body ++ added (k .block c)
+  hello-back : helloBytes k body c ≡ take (k .tail c) body ++ added (k .block c)
   unfolding helloBytes
   hello-back =
       let t = by-split k law body bytes in
@@ -146,7 +146,7 @@ writes-back {C} k law ofHello kind most h body bytes bound =
       text = text;
       writes = λ c e out. text-writes (messageText kind (helloText k body c)) (back k kind body c) out (text c e);
       short = λ c e out. text-short (messageText kind (helloText k body c)) (back k kind body c) out (text c e);
-      enough = λ c e out r. omega (arith, fits c e, back-length k law ofHello body bytes c e kind);
+      enough = λ c e out r. text-writes (messageText kind (helloText k body c)) (back k kind body c) out (text c e) (omega (arith, fits c e, back-length k law ofHello body bytes c e kind)) .0;
     }
   where
     fits : (c : C) → reading k body ≡ accepted c → length (helloBytes k body c) ≤ most

@@ -3,8 +3,10 @@ use Prim.Native.Nat.{ℕ, _<_}
 use mathlib.Core.Path.{_≡_}
 use mathlib.Core.Bool.{Bool, true}
 use mathlib.Core.List.{List}
-use mathlib.Core.Option.{some}
-use Rattle.refusal.specs.Answers.{accepted}
+use mathlib.Core.Option.{none, some}
+use Rattle.refusal.specs.Answers.{accepted, refused}
+use Rattle.refusal.specs.Refusals.{refusal}
+use Rattle.refusal.specs.declared.Reason.the-variants.{Tag}
 use Rattle.wire.specs.Numbers.{Bytes}
 use Rattle.grammar.specs.Forms.{pieces}
 use Rattle.grammar.specs.Versions.{byVersion}
@@ -15,13 +17,17 @@ use Rattle.server.specs.Draft18.{draft18}
 use Rattle.server.specs.declared.tlsv12.TlsServerHelloContents.{TlsServerHelloContents}
 use Rattle.server.specs.declared.tlsv13draft18.TlsServerHelloV13Draft18Contents.{TlsServerHelloV13Draft18Contents}
 use Rattle.text.specs.Hellos.{helloText}
-use Rattle.wayback.specs.Hellos.{WritesBack, ReadsAgain, again}
+use Rattle.text.specs.Messages.{messageText}
+use Rattle.wayback.specs.Hellos.{back, WritesBack, ReadsAgain, again}
 
--- a hello that was read, written back; document 01: "A ClientHello that was read has at most 131,396 bytes before its tail"
+-- a hello that was read, written back; document 01: "A ClientHello that was read has at most 131,396 bytes before its tail". A ServerHello has at
+-- most 2 + 32 + 33 + 2 + 1 + 2 + 65,535, one of draft 18 2 + 32 + 2 + 2 + 65,535
 pub record Back (body : List ℕ) : Type 0 where
   pub clientHello : WritesBack client 0x01 131396 body
   pub serverHello : (hasExt : Bool) → WritesBack (server hasExt) 0x02 65607 body
   pub draft18Hello : WritesBack draft18 0x02 65573 body
+  -- the ServerHello by the form that its version announces
+  pub byItsVersion : (c : TlsServerHelloContents) → byVersion serverVersions body ≡ accepted c → messageText 0x02 (helloText (server true) body c) ≡ accepted (back (server true) 0x02 body c)
 
 -- a hello that was written, read
 pub record Again (s : List ℕ) : Type 0 where
@@ -31,9 +37,12 @@ pub record Again (s : List ℕ) : Type 0 where
   -- the version that was written announces by which form a ServerHello is read
   pub byItsVersion : (hasExt : Bool) (c : TlsServerHelloContents) → c .version < 65536 → serverVersions (c .version) ≡ some (server hasExt) → (b : List ℕ) → helloText (server true) s c ≡ accepted b
       → (d : TlsServerHelloContents) × (byVersion serverVersions b ≡ accepted d) × (pieces (server hasExt) b d ≡ again (server hasExt) s c)
+  -- one of a version that is not listed is written too, and refused with Tag when it is read
+  pub unlisted : (c : TlsServerHelloContents) → c .version < 65536 → serverVersions (c .version) ≡ none → (b : List ℕ) → helloText (server true) s c ≡ accepted b
+      → byVersion serverVersions b ≡ refused (refusal Tag 0 0)
 
 pub record Demand3 : Type 0 where
   pub writing : (body : List ℕ) → Bytes body → Back body
   pub reading-again : (s : List ℕ) → Bytes s → Again s
-  -- a ServerHello is written the same whatever its version
+  -- a ServerHello's text is the same by both its forms
   pub one-text : (hasExt : Bool) (s : List ℕ) (c : TlsServerHelloContents) → helloText (server hasExt) s c ≡ helloText (server true) s c

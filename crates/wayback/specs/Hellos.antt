@@ -21,18 +21,18 @@ use Rattle.grammar.specs.Forms.{Form, allNamed, pieces, reading}
 use Rattle.text.specs.Hellos.{helloText}
 use Rattle.text.specs.Messages.{messageText}
 
--- "then 00 00 if there were no extensions"
+-- document 01: "absent extensions write 00 00"
 abbrev pub added : OptView → List ℕ
 added Absent = 0x00 ∷ 0x00 ∷ []
 added (Present v) = []
 
--- "the header and the bytes before the tail"
+-- the message: type, length, the bytes of the body before its tail, and what is added
 abbrev pub back : {C : Type 0} → Form C → ℕ → List ℕ → C → List ℕ
 back k kind body c =
     let b = take (k .tail c) body ++ added (k .block c) in
     bytesOf 1 kind ++ (bytesOf 3 (length b) ++ b)
 
--- a hello of a type, read by a form, whose message has at most `most` bytes before the tail of its body
+-- a hello read by a form from a body, written back as a message of a type: before its tail the body has at most `most` bytes
 pub record WritesBack {C : Type 0} (k : Form C) (kind most : ℕ) (body : List ℕ) : Type 0 where
   pub bound : (c : C) → reading k body ≡ accepted c → k .tail c ≤ most
   -- its text
@@ -46,7 +46,7 @@ pub record WritesBack {C : Type 0} (k : Form C) (kind most : ℕ) (body : List �
       → (room (messageText kind (helloText k body c)) 0 out ≡ refused (refusal NoRoom 0 (length (back k kind body c) - length out)))
       × (written (messageText kind (helloText k body c)) 0 out ≡ out)
   -- with room for the longest, it is never refused
-  pub enough : (c : C) → reading k body ≡ accepted c → (out : List ℕ) → 4 + most ≤ length out → length (back k kind body c) ≤ length out
+  pub enough : (c : C) → reading k body ≡ accepted c → (out : List ℕ) → 4 + most ≤ length out → room (messageText kind (helloText k body c)) 0 out ≡ accepted (length (back k kind body c))
 
 -- what a second reading finds of the block: where the form has one it is present, and empty if it was absent; where it has none (a ServerHello at
 -- 0x0300) it is absent, and its bytes are tail

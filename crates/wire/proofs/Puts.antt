@@ -11,16 +11,16 @@ use lib.Seq.{take-at, drop-at, drop-drop, length-take-le, drop-cons, set-at, tak
 use Rattle.refusal.specs.Answers.{Answer, accepted, refused, TellSame}
 use Rattle.refusal.proofs.Told.{tells-all}
 use Rattle.refusal.specs.Refusals.{refusal}
-use Rattle.refusal.specs.declared.Reason.the-variants.{Incomplete, NoRoom, BadLength}
+use Rattle.refusal.specs.declared.Reason.the-variants.{NoRoom, BadLength}
 use Rattle.refusal.specs.declared.Refusal.{Refusal}
 use Rattle.wire.specs.Parts.{partAt}
-use Rattle.wire.specs.Numbers.{be, bytesOf, numberAt, numberText}
+use Rattle.wire.specs.Numbers.{bytesOf, numberText}
 use Rattle.wire.specs.declared.view.Part.{Part}
 use Rattle.wire.specs.Puts.{put, room, written, writeSays}
 use Rattle.wire.specs.declared.output.WriteAnswer.{WriteAnswer}
 use Rattle.wire.specs.declared.output.WriteAnswer.the-variants.{Refused, Wrote}
 use Rattle.wire.proofs.Parts.{part-in, fits, short}
-use Rattle.wire.proofs.Numbers.{length-bytes, be-drop, be-of, number-got}
+use Rattle.wire.proofs.Numbers.{length-bytes}
 
 pub put-nil : (d : List ℕ) (at : ℕ) → put d at [] ≡ d
 unfolding put
@@ -64,7 +64,7 @@ copy-next d at s k h l =
     rw (add-one, take-suc s k 0 l) (rw n at e)
 
 -- a byte set, and then the bytes before it
-pub put-set : (d : List ℕ) (at : ℕ) (xs : List ℕ) (y : ℕ) → at + length xs < length d → put (set d (at + length xs) y) at xs ≡ put d at (xs ++ (y ∷ []))
+put-set : (d : List ℕ) (at : ℕ) (xs : List ℕ) (y : ℕ) → at + length xs < length d → put (set d (at + length xs) y) at xs ≡ put d at (xs ++ (y ∷ []))
 unfolding put
 put-set d at xs y h =
     let k = at + length xs in
@@ -122,17 +122,6 @@ number-put w n at d {p} h e = text-in (bytesOf w n) at d {p = p} (number-accepte
 
 pub number-out : (w n at : ℕ) (d : List ℕ) {r : Refusal} → n < 256 ^ w → partAt NoRoom d at w ≡ refused r → Came (numberText w n) at d (refused r) d
 number-out w n at d {r} h e = text-out (bytesOf w n) at d {r = r} (number-accepted w n h) (rw (length-bytes w n) e)
-
--- a number that was put in is read back
-pub number-back : (w n at : ℕ) (d : List ℕ) → n < 256 ^ w → at + w ≤ length d → numberAt w (put d at (bytesOf w n)) at ≡ accepted (record { value = n; next = at + w })
-unfolding put
-number-back w n at d h r =
-    let l : length (take at d) ≡ at = length-take-le at d (omega arith) in
-    let b = length-bytes w n in
-    let s = take at d ++ (bytesOf w n ++ drop (at + length (bytesOf w n)) d) in
-    let k : length s ≡ length d = simp (length-append, length-drop, l, b) (omega arith) in
-    let v : be w s at ≡ n = be-drop w s at ∙ rw (drop-at (take at d) (bytesOf w n ++ drop (at + length (bytesOf w n)) d) at l) (be-of w n _ h) in
-    number-got w s at (part-in Incomplete s at w (omega arith)) ∙ rw v
 
 -- equal numbers and values mean equal answers
 abbrev write-back : Answer ℕ → WriteAnswer
