@@ -10,27 +10,40 @@ type Sized = fn(&[u8], usize) -> Read<TlsMessageHandshake>;
 
 /// The numbers of the answer. Panics where the crate says what the text cannot.
 pub fn answer(case: &Case) -> Vec<u64> {
-    let i = &case.input[..];
     if is_writer(case.function) {
         return write::answer(case);
     }
+    let mut numbers = Vec::new();
+    read(case, &mut numbers);
+    numbers
+}
+
+/// The numbers of a reader's answer, put behind those that are there.
+pub fn read(case: &Case, to: &mut Vec<u64>) {
+    let i = &case.input[..];
     if let Some(length) = case.length {
         let length = usize::try_from(length).expect("a length of 64 bits");
-        return told(i, sized_reader(case.function)(i, length), values::handshake);
+        return told(to, i, sized_reader(case.function)(i, length), values::handshake);
     }
     match case.function {
-        HEADER => told(i, parse_tls_record_header(i), values::header),
-        RAW => told(i, parse_tls_raw_record(i), values::raw),
-        ENCRYPTED => told(i, parse_tls_encrypted(i), values::encrypted),
-        PLAINTEXT => told(i, parse_tls_plaintext(i), values::plaintext),
-        MESSAGE => told(i, parse_tls_message_handshake(i), values::message),
-        CLIENT_HELLO => told(i, parse_tls_handshake_client_hello(i), values::client_hello),
-        SERVER_HELLO => told(i, parse_tls_handshake_server_hello(i), values::server_hello),
-        REQUEST => told(i, parse_tls_handshake_certificaterequest(i), values::request),
-        STATUS => told(i, parse_tls_handshake_certificatestatus(i), values::status),
-        NEXT => told(i, parse_tls_handshake_next_protocol(i), values::next_protocol),
-        name => told(i, message_reader(name)(i), values::handshake),
+        HEADER => told(to, i, parse_tls_record_header(i), values::header),
+        RAW => told(to, i, parse_tls_raw_record(i), values::raw),
+        ENCRYPTED => told(to, i, parse_tls_encrypted(i), values::encrypted),
+        PLAINTEXT => told(to, i, parse_tls_plaintext(i), values::plaintext),
+        MESSAGE => told(to, i, parse_tls_message_handshake(i), values::message),
+        CLIENT_HELLO => told(to, i, parse_tls_handshake_client_hello(i), values::client_hello),
+        SERVER_HELLO => told(to, i, parse_tls_handshake_server_hello(i), values::server_hello),
+        REQUEST => told(to, i, parse_tls_handshake_certificaterequest(i), values::request),
+        STATUS => told(to, i, parse_tls_handshake_certificatestatus(i), values::status),
+        NEXT => told(to, i, parse_tls_handshake_next_protocol(i), values::next_protocol),
+        name => told(to, i, message_reader(name)(i), values::handshake),
     }
+}
+
+/// Whether a plaintext record of any type is accepted: outside of the handshake neither
+/// the messages nor every refusal have numbers.
+pub fn is_opened(i: &[u8]) -> bool {
+    parse_tls_plaintext(i).is_ok()
 }
 
 /// The readers of bodies that answer a message and need no length.
@@ -63,8 +76,8 @@ fn sized_reader(name: &str) -> Sized {
 }
 
 /// 0, the place of the rest and the values; or the number of the refusal alone.
-fn told<T>(input: &[u8], got: Read<T>, values: fn(&mut Sheet, &T)) -> Vec<u64> {
-    let mut sheet = Sheet::new(input);
+fn told<T>(to: &mut Vec<u64>, input: &[u8], got: Read<T>, values: fn(&mut Sheet, &T)) {
+    let mut sheet = Sheet::new(input, to);
     match got {
         Ok((rest, value)) => {
             sheet.number(0u8);
@@ -73,7 +86,6 @@ fn told<T>(input: &[u8], got: Read<T>, values: fn(&mut Sheet, &T)) -> Vec<u64> {
         }
         Err(refused) => sheet.number(refusal(&refused)),
     }
-    sheet.numbers
 }
 
 fn refusal(refused: &Err<Error<&[u8]>>) -> u8 {

@@ -2,12 +2,13 @@
 
 pub struct Sheet<'a> {
     input: &'a [u8],
-    pub numbers: Vec<u64>,
+    numbers: &'a mut Vec<u64>,
 }
 
 impl<'a> Sheet<'a> {
-    pub fn new(input: &'a [u8]) -> Self {
-        Sheet { input, numbers: Vec::new() }
+    /// Numbers behind those that are there.
+    pub fn new(input: &'a [u8], numbers: &'a mut Vec<u64>) -> Self {
+        Sheet { input, numbers }
     }
 
     pub fn number(&mut self, n: impl Into<u64>) {

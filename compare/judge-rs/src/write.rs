@@ -13,14 +13,22 @@ pub type Written = Result<Vec<u8>, GenError>;
 /// 0, how many bytes and each of them; or 12 alone. Panics outside the domain.
 pub fn answer(case: &Case) -> Vec<u64> {
     domain::hold(case);
-    match written(case.function, &case.input) {
+    match text(case) {
         Ok(bytes) => {
             assert!(bytes.len() < domain::ROOM, "more than the port has room for");
             [0, bytes.len() as u64].into_iter().chain(bytes.into_iter().map(u64::from)).collect()
         }
-        Err(GenError::NotYetImplemented) => vec![NOT_YET],
-        Err(other) => panic!("a refusal without a number: {other:?}"),
+        Err(number) => vec![number],
     }
+}
+
+/// The bytes that are written for the value of a case, in the domain or not; or the
+/// number of the refusal.
+pub fn text(case: &Case) -> Result<Vec<u8>, u64> {
+    written(case.function, &case.input).map_err(|refused| match refused {
+        GenError::NotYetImplemented => NOT_YET,
+        other => panic!("a refusal without a number: {other:?}"),
+    })
 }
 
 fn written(name: &str, i: &[u8]) -> Written {

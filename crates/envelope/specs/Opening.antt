@@ -16,26 +16,30 @@ use Rattle.message.specs.declared.handshake.TlsMessageHandshake.the-variants.{E
 use Rattle.envelope.specs.declared.TlsMessageHead.{TlsMessageHead}
 use Rattle.envelope.specs.Heads.{headAt}
 
--- the body of a message of a type; "All others, 0x03, 0x08 and 0x15 among them: Switch"
-unfoldable pub byType : ℕ → List ℕ → Answer TlsMessageHandshake
-byType k s =
+-- the body of a message of a type, n its length where that is handed over; "All others, 0x03, 0x08 and 0x15 among them: Switch"
+unfoldable pub opened : ℕ → ℕ → List ℕ → Answer TlsMessageHandshake
+opened k n s =
     pick (eqb k 0x00) (helloRequestMessage s)
     (pick (eqb k 0x01) (clientMessage s)
     (pick (eqb k 0x02) (serverMessage s)
-    (pick (eqb k 0x04) (ticketMessage (length s) s)
+    (pick (eqb k 0x04) (ticketMessage n s)
     (pick (eqb k 0x05) (accepted EndOfEarlyData)
     (pick (eqb k 0x06) (retryMessage s)
     (pick (eqb k 0x0b) (certificateMessage s)
-    (pick (eqb k 0x0c) (serverKeyExchangeMessage (length s) s)
+    (pick (eqb k 0x0c) (serverKeyExchangeMessage n s)
     (pick (eqb k 0x0d) (requestMessage s)
-    (pick (eqb k 0x0e) (serverDoneMessage (length s) s)
-    (pick (eqb k 0x0f) (certificateVerifyMessage (length s) s)
-    (pick (eqb k 0x10) (clientKeyExchangeMessage (length s) s)
-    (pick (eqb k 0x14) (finishedMessage (length s) s)
+    (pick (eqb k 0x0e) (serverDoneMessage n s)
+    (pick (eqb k 0x0f) (certificateVerifyMessage n s)
+    (pick (eqb k 0x10) (clientKeyExchangeMessage n s)
+    (pick (eqb k 0x14) (finishedMessage n s)
     (pick (eqb k 0x16) (statusMessage s)
     (pick (eqb k 0x18) (keyUpdateMessage s)
     (pick (eqb k 0x43) (nextProtocolMessage s)
     (refused (refusal Switch 0 0)))))))))))))))))
+
+-- the body of a message of a type
+unfoldable pub byType : ℕ → List ℕ → Answer TlsMessageHandshake
+byType k s = opened k (length s) s
 
 -- a message that was met: its head, and what it says
 pub record Met : Type 0 where

@@ -1,7 +1,7 @@
 // A handshake message: its head, what its type opens, and both.
 ghost use mathlib.Core.Path.{_≡_};
 ghost use Rattle.envelope.specs.Heads.{headAt, headSays};
-ghost use Rattle.envelope.specs.Opening.{byType, message};
+ghost use Rattle.envelope.specs.Opening.{byType, message, opened};
 ghost use Rattle.message.specs.Messages.{messageSays};
 use field::Kind;
 use message::handshake::MessageAnswer;
@@ -49,31 +49,37 @@ pub fn parse_tls_message_head(s: &[u8], at: usize) -> HeadAnswer
     })
 }
 
+// The body reader that the type names, `len` the length of those that take one.
+pub fn parse_tls_handshake_msg(kind: u8, i: &[u8], len: usize) -> MessageAnswer
+    ensures { λ r. ⌜ messageSays r ≡ opened kind len (now (i .entry)) ⌝ }
+{
+    match kind {
+        0x00 => hellos::parse_tls_handshake_msg_hello_request(i),
+        0x01 => hellos::parse_tls_handshake_msg_client_hello(i),
+        0x02 => hellos::parse_tls_handshake_msg_server_hello(i),
+        0x04 => bodies::parse_tls_handshake_msg_newsessionticket(i, len),
+        0x05 => MessageAnswer::Got(TlsMessageHandshake::EndOfEarlyData),
+        0x06 => hellos::parse_tls_handshake_msg_hello_retry_request(i),
+        0x0b => bodies::parse_tls_handshake_msg_certificate(i),
+        0x0c => opaque::parse_tls_handshake_msg_serverkeyexchange(i, len),
+        0x0d => bodies::parse_tls_handshake_msg_certificaterequest(i),
+        0x0e => opaque::parse_tls_handshake_msg_serverdone(i, len),
+        0x0f => opaque::parse_tls_handshake_msg_certificateverify(i, len),
+        0x10 => opaque::parse_tls_handshake_msg_clientkeyexchange(i, len),
+        0x14 => opaque::parse_tls_handshake_msg_finished(i, len),
+        0x16 => bodies::parse_tls_handshake_msg_certificatestatus(i),
+        0x18 => bodies::parse_tls_handshake_msg_key_update(i),
+        0x43 => bodies::parse_tls_handshake_msg_next_protocol(i),
+        0x03 | 0x07..=0x0a | 0x11..=0x13 | 0x15 | 0x17 | 0x19..=0x42 | 0x44..=0xff =>
+            MessageAnswer::Refused(refusal::refuse(Reason::Switch, 0, 0)),
+    }
+}
+
 // The body of a message of a type, opened.
 pub fn parse_tls_handshake_body(kind: u8, body: &[u8]) -> MessageAnswer
     ensures { λ r. ⌜ messageSays r ≡ byType kind (now (body .entry)) ⌝ }
 {
-    let len = body.len();
-    match kind {
-        0x00 => hellos::parse_tls_handshake_msg_hello_request(body),
-        0x01 => hellos::parse_tls_handshake_msg_client_hello(body),
-        0x02 => hellos::parse_tls_handshake_msg_server_hello(body),
-        0x04 => bodies::parse_tls_handshake_msg_newsessionticket(body, len),
-        0x05 => MessageAnswer::Got(TlsMessageHandshake::EndOfEarlyData),
-        0x06 => hellos::parse_tls_handshake_msg_hello_retry_request(body),
-        0x0b => bodies::parse_tls_handshake_msg_certificate(body),
-        0x0c => opaque::parse_tls_handshake_msg_serverkeyexchange(body, len),
-        0x0d => bodies::parse_tls_handshake_msg_certificaterequest(body),
-        0x0e => opaque::parse_tls_handshake_msg_serverdone(body, len),
-        0x0f => opaque::parse_tls_handshake_msg_certificateverify(body, len),
-        0x10 => opaque::parse_tls_handshake_msg_clientkeyexchange(body, len),
-        0x14 => opaque::parse_tls_handshake_msg_finished(body, len),
-        0x16 => bodies::parse_tls_handshake_msg_certificatestatus(body),
-        0x18 => bodies::parse_tls_handshake_msg_key_update(body),
-        0x43 => bodies::parse_tls_handshake_msg_next_protocol(body),
-        0x03 | 0x07..=0x0a | 0x11..=0x13 | 0x15 | 0x17 | 0x19..=0x42 | 0x44..=0xff =>
-            MessageAnswer::Refused(refusal::refuse(Reason::Switch, 0, 0)),
-    }
+    parse_tls_handshake_msg(kind, body, body.len())
 }
 
 // The message at the front; its views are of its body, and `parse_tls_message_head` tells where that lies and where the rest begins.

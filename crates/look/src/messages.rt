@@ -2,8 +2,8 @@
 use crate::body_lines;
 use crate::hello_lines;
 use crate::say;
+use norrabist::HeadAnswer;
 use norrabist::MessageAnswer;
-use norrabist::PassedAnswer;
 use norrabist::TlsMessageHandshake;
 use norrabist::TlsRecordWalk;
 
@@ -83,7 +83,7 @@ fn say_dropped(content: &[u8], dropped: usize, end: usize, at: usize) {
     if dropped == 0 {
         return;
     }
-    let PassedAnswer::Refused(r) = norrabist::pass_tls_message(content, end) else {
+    let HeadAnswer::Refused(r) = norrabist::meet_tls_message(content, end) else {
         return;
     };
     say::text(b"  dropped ");

@@ -1,10 +1,12 @@
--- Equal numbers and values mean equal answers of the plaintext record's reader. Assumes nothing.
+-- Equal numbers and values mean equal answers of the plaintext record's readers. Assumes nothing.
 use mathlib.Core.Path.{_≡_, refl}
 use Rattle.refusal.specs.Answers.{Answer, accepted, refused, TellSame}
 use Rattle.refusal.proofs.Told.{tells-all}
-use Rattle.plaintext.specs.Plaintext.{plaintextSays}
+use Rattle.plaintext.specs.Plaintext.{plaintextSays, openedSays}
 use Rattle.plaintext.specs.declared.TlsPlaintext.{TlsPlaintext}
 use Rattle.plaintext.specs.declared.PlaintextAnswer.{PlaintextAnswer}
+use Rattle.plaintext.specs.declared.TlsPlaintextOpened.{TlsPlaintextOpened}
+use Rattle.plaintext.specs.declared.OpenedAnswer.{OpenedAnswer}
 
 abbrev plaintext-back : Answer TlsPlaintext → PlaintextAnswer
 plaintext-back (accepted a) = PlaintextAnswer.Got a
@@ -16,3 +18,14 @@ plaintext-home (PlaintextAnswer.Got a) = refl
 
 pub one-plaintext : (x y : PlaintextAnswer) → TellSame (plaintextSays x) (plaintextSays y) → x ≡ y
 one-plaintext = tells-all plaintextSays plaintext-back plaintext-home
+
+abbrev opened-back : Answer TlsPlaintextOpened → OpenedAnswer
+opened-back (accepted a) = OpenedAnswer.Got a
+opened-back (refused r) = OpenedAnswer.Refused r
+
+opened-home : (a : OpenedAnswer) → opened-back (openedSays a) ≡ a
+opened-home (OpenedAnswer.Refused r) = refl
+opened-home (OpenedAnswer.Got a) = refl
+
+pub one-opened : (x y : OpenedAnswer) → TellSame (openedSays x) (openedSays y) → x ≡ y
+one-opened = tells-all openedSays opened-back opened-home

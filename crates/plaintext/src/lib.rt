@@ -1,6 +1,13 @@
 // The plaintext record: opened by its type (RFC 5246 6.2.1).
 ghost use mathlib.Core.Path.{_≡_};
-ghost use Rattle.plaintext.specs.Plaintext.{firstRefusal, handshakes, plaintext, plaintextSays};
+ghost use Prim.Native.Nat.{_≤_};
+ghost use lib.ListN.{length};
+ghost use Rattle.refusal.specs.Answers.{then};
+ghost use Rattle.plaintext.specs.Plaintext.{counted, firstRefusal, handshakes, openedFirst, openedSays, otherType, plaintext, plaintextSays, withFirst};
+use envelope::HeadAnswer;
+use envelope::TlsMessageHead;
+use message::handshake::MessageAnswer;
+use message::handshake::TlsMessageHandshake;
 use record::RawRecordAnswer;
 use record::TlsRawRecord;
 use record::TlsRecordHeader;
@@ -23,6 +30,18 @@ pub enum PlaintextAnswer {
     Got(TlsPlaintext),
 }
 
+// A record, and its first message, opened; the message's views are of its body, which `head` tells.
+pub struct TlsPlaintextOpened {
+    pub record: TlsPlaintext,
+    pub head: TlsMessageHead,
+    pub message: TlsMessageHandshake,
+}
+
+pub enum OpenedAnswer {
+    Refused(Refusal),
+    Got(TlsPlaintextOpened),
+}
+
 // What the refusal of the first message, in a record's content that begins at `at`, makes of the record.
 fn first_refusal(r: Refusal, at: usize) -> Refusal
     ensures { λ x. ⌜ x ≡ firstRefusal at r ⌝ }
@@ -39,7 +58,7 @@ fn open_handshake(outer: TlsRawRecord, content: &[u8]) -> PlaintextAnswer
 {
     let hdr = outer.hdr;
     let msg = outer.data;
-    let tally = walk::count_messages(content);
+    let tally = walk::count_messages(content, 0);
     if tally.count == 0 {
         let stop = tally.stop;
         return PlaintextAnswer::Refused(first_refusal(stop, msg.start));
@@ -53,6 +72,16 @@ fn open_handshake(outer: TlsRawRecord, content: &[u8]) -> PlaintextAnswer
     })
 }
 
+// Why a record of a type other than 0x16 is refused.
+fn other_type(kind: u8) -> Refusal
+    ensures { λ r. ⌜ r ≡ otherType kind ⌝ }
+{
+    match kind {
+        0x14..=0x18 => refusal::refuse(Reason::Elsewhere, 0, 0),
+        0x00..=0x13 | 0x19..=0xff => refusal::refuse(Reason::Switch, 0, 0),
+    }
+}
+
 pub fn parse_tls_plaintext(i: &[u8]) -> PlaintextAnswer
     ensures { λ r. ⌜ plaintextSays r ≡ plaintext (now (i .entry)) ⌝ }
 {
@@ -63,13 +92,68 @@ pub fn parse_tls_plaintext(i: &[u8]) -> PlaintextAnswer
         RawRecordAnswer::Got(x) => x,
     };
     let kind = record.hdr.record_type;
-    match kind {
-        0x16 => open_handshake(record, wire::view::part_of(i, record.data)),
-        0x14 | 0x15 | 0x17 | 0x18 => {
-            PlaintextAnswer::Refused(refusal::refuse(Reason::Elsewhere, 0, 0))
+    if kind == 0x16 {
+        return open_handshake(record, wire::view::part_of(i, record.data));
+    }
+    PlaintextAnswer::Refused(other_type(kind))
+}
+
+// The record with its content, whose first message is met and ends at `next`: the others are counted.
+fn count_others(outer: TlsRawRecord, content: &[u8], next: usize) -> TlsPlaintext
+    requires { ⌜ next ≤ length (now content) ⌝ }
+    ensures { λ r. ⌜ r ≡ counted outer (now (content .entry)) next ⌝ }
+{
+    let hdr = outer.hdr;
+    let msg = outer.data;
+    let others = walk::count_messages(content, next);
+    TlsPlaintext {
+        hdr,
+        msg,
+        count: 1 + others.count,
+        dropped: content.len() - others.end,
+        next: outer.next,
+    }
+}
+
+// The record opened as handshake messages, with its content, and the first of them.
+fn open_first(outer: TlsRawRecord, content: &[u8]) -> OpenedAnswer
+    ensures { λ r. ⌜ openedSays r ≡ then (handshakes outer (now (content .entry))) (withFirst (now (content .entry))) ⌝ }
+{
+    let msg = outer.data;
+    let head = match envelope::parse_tls_message_head(content, 0) {
+        HeadAnswer::Refused(r) => {
+            return OpenedAnswer::Refused(first_refusal(r, msg.start));
         }
-        0x00..=0x13 | 0x19..=0xff => {
-            PlaintextAnswer::Refused(refusal::refuse(Reason::Switch, 0, 0))
+        HeadAnswer::Got(h) => h,
+    };
+    let body = head.body;
+    match envelope::parse_tls_handshake_body(head.kind, wire::view::part_of(content, body)) {
+        MessageAnswer::Refused(r) => {
+            OpenedAnswer::Refused(first_refusal(refusal::inside(r, body.start), msg.start))
+        }
+        MessageAnswer::Got(message) => {
+            let record = count_others(outer, content, head.next);
+            OpenedAnswer::Got(TlsPlaintextOpened {
+                record,
+                head,
+                message,
+            })
         }
     }
+}
+
+// The record with its first message, which is read once; the others are counted.
+pub fn open_tls_plaintext(i: &[u8]) -> OpenedAnswer
+    ensures { λ r. ⌜ openedSays r ≡ openedFirst (now (i .entry)) ⌝ }
+{
+    let record = match record::parse_tls_raw_record(i) {
+        RawRecordAnswer::Refused(r) => {
+            return OpenedAnswer::Refused(r);
+        }
+        RawRecordAnswer::Got(x) => x,
+    };
+    if record.hdr.record_type == 0x16 {
+        return open_first(record, wire::view::part_of(i, record.data));
+    }
+    OpenedAnswer::Refused(other_type(record.hdr.record_type))
 }

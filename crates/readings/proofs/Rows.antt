@@ -13,11 +13,11 @@ use Rattle.text.specs.Hellos.{mayWrite, helloBytes, helloText}
 use Rattle.text.specs.Messages.{messageText}
 use Rattle.hellos.specs.Hellos.{helloRequestMessage, clientMessage}
 use Rattle.envelope.specs.Heads.{headAt}
-use Rattle.envelope.specs.Opening.{byType, metAt, message}
+use Rattle.envelope.specs.Opening.{opened, byType, metAt, message}
 use Rattle.walk.specs.Walks.{pastAll}
 use Rattle.plaintext.specs.Plaintext.{handshakes, byRecordType, plaintext}
 use Rattle.readings.specs.Readings.{rows, AllRead}
 
 pub all-read : AllRead rows
-unfolding rows messageText helloText mayWrite helloBytes fieldText join bytesOf message metAt headAt byType helloRequestMessage clientMessage plaintext byRecordType handshakes itemsFrom place pastAll reading read fieldsAt blockAt step ruled numberAt be partAt refusal inside
+unfolding rows messageText helloText mayWrite helloBytes fieldText join bytesOf message metAt headAt byType opened helloRequestMessage clientMessage plaintext byRecordType handshakes itemsFrom place pastAll reading read fieldsAt blockAt step ruled numberAt be partAt refusal inside
 all-read = ((refl, refl), ((refl, refl), ((refl, refl), ((refl, refl), ((refl, refl), ((refl, refl), ((refl, refl), ((refl, refl), ((refl, refl), ((refl, refl), ((refl, refl), ((refl, refl), ((refl, refl), ((refl, refl), ((refl, refl), ((refl, refl), ((refl, refl), ((refl, refl), ((refl, refl), tt)))))))))))))))))))

@@ -1,5 +1,5 @@
 -- The walk over a record's messages: that of `list/proofs/Walk.antt`, a message being what is found at a place. Assumes nothing.
-use Prim.Native.Nat.{ℕ, zero, suc, _+_, _*_, _<_, _≤_}
+use Prim.Native.Nat.{ℕ, zero, suc, _+_, _-_, _*_, _<_, _≤_}
 use mathlib.Core.Path.{_≡_, refl, sym, ap, _∙_}
 use mathlib.Core.Logic.{_⊎_, inl, inr}
 use mathlib.Core.List.{List, [], _∷_}
@@ -11,11 +11,12 @@ use Rattle.refusal.specs.declared.Reason.the-variants.{NoSuch}
 use Rattle.refusal.specs.declared.Refusal.{Refusal}
 use Rattle.refusal.proofs.Then.{not-both, then-accepted, then-refused, either}
 use Rattle.list.specs.Items.{itemsFrom, place, orNoSuch}
-use Rattle.list.proofs.Walk.{Moves, rest, rest-end, rest-all, first, go-on, got, none, none-after, place-past}
+use Rattle.list.proofs.Walk.{Moves, rest, rest-on, rest-end, first, go-on, got, none, none-after, place-past}
 use Rattle.message.specs.declared.handshake.TlsMessageHandshake.{TlsMessageHandshake}
 use Rattle.envelope.specs.Opening.{Met, metAt}
+use Rattle.envelope.specs.declared.TlsMessageHead.{TlsMessageHead}
 use Rattle.envelope.proofs.Heads.{met-lies}
-use Rattle.walk.specs.Walks.{messages, pastAll, dropped, passed, nextMessage, moved, walkAfter}
+use Rattle.walk.specs.Walks.{messages, messagesFrom, pastAll, dropped, metHead, nextMessage, moved, walkAfter}
 use Rattle.walk.specs.Walking.{bytesOfAll, EveryWalk}
 use Rattle.walk.specs.declared.TlsRecordWalk.{TlsRecordWalk}
 
@@ -29,19 +30,38 @@ left s at = rest (metAt s) behind (length s) at
 pub by-messages : (s : List ℕ) → Moves (metAt s) behind (length s)
 by-messages s = record { on = λ at x e. let i = met-lies s at e in (omega arith, i .inside) }
 
-pub all-left : (s : List ℕ) → messages s ≡ left s 0
-all-left s = rest-all (metAt s) behind (length s)
-
--- a message that can be passed was met
-pub passed-got : (s : List ℕ) (at : ℕ) {n : ℕ} → passed s at ≡ accepted n → (x : Met) × (metAt s at ≡ accepted x) × (behind x ≡ n)
-unfolding passed
-passed-got s at e = let t = then-accepted (metAt s at) (λ x. accepted (behind x)) e in (t .0, t .1, cc (t .2))
-
-pub passed-not : (s : List ℕ) (at : ℕ) {r : Refusal} → passed s at ≡ refused r → metAt s at ≡ refused r
-unfolding passed
-passed-not s at {r} e = go (then-refused (metAt s at) (λ x. accepted (behind x)) e)
+-- any number of turns will do that is not below the bytes left
+turns : (s : List ℕ) (k at : ℕ) → length s - at ≤ k → itemsFrom k (metAt s) behind at ≡ left s at
+unfolding itemsFrom
+turns s zero at h = let z : length s - at ≡ 0 = omega arith in rw z
+turns s (suc k) at h = go (λ p i. turns s k p i) (metAt s at) refl
   where
-    go : (metAt s at ≡ refused r) ⊎ ((x : Met) × (metAt s at ≡ accepted x) × (_≡_ {A = Answer ℕ} (accepted (behind x)) (refused r))) → metAt s at ≡ refused r
+    go : ((p : ℕ) → length s - p ≤ k → itemsFrom k (metAt s) behind p ≡ left s p) → (a : Answer Met) → metAt s at ≡ a → itemsFrom (suc k) (metAt s) behind at ≡ left s at
+    go ih (accepted x) e =
+        let i = by-messages s .on at _ e in
+        rw (rest-on (by-messages s) at e, e, ih (behind x) (omega arith))
+    go ih (refused r) e = rw (rest-end (by-messages s) at e, e)
+
+pub all-from : (s : List ℕ) (at : ℕ) → messagesFrom s at ≡ left s at
+all-from s at = turns s (length s) at (omega arith)
+
+-- the message that is met at a place, and those behind it
+pub one-more : (s : List ℕ) (at : ℕ) {x : Met} → metAt s at ≡ accepted x → messagesFrom s at ≡ x ∷ messagesFrom s (behind x)
+one-more s at {x} e = all-from s at ∙ rest-on (by-messages s) at e ∙ rw (all-from s (behind x))
+
+-- a message whose head is handed out was met
+pub head-met : (s : List ℕ) (at : ℕ) {h : TlsMessageHead} → metHead s at ≡ accepted h → (x : Met) × (metAt s at ≡ accepted x) × (behind x ≡ h .next)
+unfolding metHead
+head-met s at {h} e =
+    let t = then-accepted (metAt s at) (λ x. accepted (x .head)) e in
+    let d : t .0 .head ≡ h = cc (t .2) in
+    (t .0, t .1, ap (λ (y : TlsMessageHead). y .next) d)
+
+pub head-not-met : (s : List ℕ) (at : ℕ) {r : Refusal} → metHead s at ≡ refused r → metAt s at ≡ refused r
+unfolding metHead
+head-not-met s at {r} e = go (then-refused (metAt s at) (λ x. accepted (x .head)) e)
+  where
+    go : (metAt s at ≡ refused r) ⊎ ((x : Met) × (metAt s at ≡ accepted x) × (_≡_ {A = Answer TlsMessageHead} (accepted (x .head)) (refused r))) → metAt s at ≡ refused r
     go (inl x) = x
     go (inr (x, y, z)) = absurd (not-both refl z)
 
@@ -73,9 +93,15 @@ unfolding bytesOfAll
 four-each [] = omega arith
 four-each (x ∷ xs) = omega (arith, four-each xs)
 
+-- from a place within the bytes on: where they end, and how many they are
+pub from-inside : (s : List ℕ) (at : ℕ) → at ≤ length s → (pastAll (messagesFrom s at) at ≤ length s) × (at + length (messagesFrom s at) * 4 ≤ length s)
+from-inside s at h =
+    let i = past-in s (length s) at h in
+    (i, omega (arith, i, past-bytes s (length s) at, four-each (messagesFrom s at)))
+
 -- what stands at the front
 none-first : (s : List ℕ) {r : Refusal} → metAt s 0 ≡ refused r → messages s ≡ []
-none-first s e = all-left s ∙ rest-end (by-messages s) 0 e
+none-first s e = all-from s 0 ∙ rest-end (by-messages s) 0 e
 
 pub first-met : (s : List ℕ) → 0 < length (messages s) → (x : Met) × (metAt s 0 ≡ accepted x)
 first-met s h = go (either (metAt s 0))
@@ -97,13 +123,13 @@ module _ (s : List ℕ) where
   -- the walk after k calls stands where the message at the place k is met
   stands : (k : ℕ) → orNoSuch (metAt s (walkAfter k s .next)) ≡ place k (messages s)
   unfolding walkAfter
-  stands zero = rw (all-left s) (sym (first (by-messages s) 0))
+  stands zero = rw (all-from s 0) (sym (first (by-messages s) 0))
   stands (suc k) = go (metAt s (walkAfter k s .next)) refl (stands k)
     where
       go : (a : Answer Met) → metAt s (walkAfter k s .next) ≡ a → orNoSuch (metAt s (walkAfter k s .next)) ≡ place k (messages s) → orNoSuch (metAt s (moved s (walkAfter k s) .next)) ≡ place (suc k) (messages s)
       go (accepted x) e ih =
-          let p : place k (left s 0) ≡ accepted x = rw (← (all-left s)) (sym ih ∙ rw e) in
-          rw (moved-on s (walkAfter k s) e, all-left s) (sym (go-on (by-messages s) k 0 p))
+          let p : place k (left s 0) ≡ accepted x = rw (← (all-from s 0)) (sym ih ∙ rw e) in
+          rw (moved-on s (walkAfter k s) e, all-from s 0) (sym (go-on (by-messages s) k 0 p))
       go (refused r) e ih =
           let p : place k (messages s) ≡ refused (refusal NoSuch 0 0) = sym ih ∙ rw e in
           rw (moved-not s (walkAfter k s) e, e) (sym (none-after k (messages s) p))

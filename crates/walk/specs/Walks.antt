@@ -2,19 +2,22 @@
 -- from there on are dropped, and their number is told", and "The record walk hands back the next message and the walk moved on; past the last
 -- message it answers NoSuch and stays."
 use Prim.Native.Nat.{ℕ, zero, suc, _-_}
+use mathlib.Core.Path.{_≡_}
 use mathlib.Core.List.{List, [], _∷_}
 use lib.ListN.{length}
 use Rattle.refusal.specs.Answers.{Answer, accepted, refused, then}
 use Rattle.list.specs.Items.{itemsFrom, orNoSuch}
 use Rattle.message.specs.declared.handshake.TlsMessageHandshake.{TlsMessageHandshake}
-use Rattle.envelope.specs.Opening.{Met, metAt}
+use Rattle.envelope.specs.Opening.{Met, byType, metAt}
+use Rattle.envelope.specs.declared.TlsMessageHead.{TlsMessageHead}
 use Rattle.walk.specs.declared.TlsRecordWalk.{TlsRecordWalk}
-use Rattle.walk.specs.declared.PassedAnswer.{PassedAnswer}
-use Rattle.walk.specs.declared.PassedAnswer.the-variants.{Refused, Got}
 
--- until one is refused: each takes four bytes at least
+-- from a place on, until one is refused: each takes four bytes at least
+abbrev pub messagesFrom : List ℕ → ℕ → List Met
+messagesFrom s at = itemsFrom (length s) (metAt s) (λ x. x .head .next) at
+
 abbrev pub messages : List ℕ → List Met
-messages s = itemsFrom (length s) (metAt s) (λ x. x .head .next) 0
+messages s = messagesFrom s 0
 
 -- the place past all of them, the first beginning at a place
 unfoldable pub pastAll : List Met → ℕ → ℕ
@@ -24,9 +27,13 @@ pastAll (x ∷ xs) at = pastAll xs (x .head .next)
 abbrev pub dropped : List ℕ → ℕ
 dropped s = length s - pastAll (messages s) 0
 
--- the place past the message that begins at a place
-unfoldable pub passed : List ℕ → ℕ → Answer ℕ
-passed s at = then (metAt s at) (λ x. accepted (x .head .next))
+-- the head of the message that is met at a place
+unfoldable pub metHead : List ℕ → ℕ → Answer TlsMessageHead
+metHead s at = then (metAt s at) (λ x. accepted (x .head))
+
+-- a body of this type is opened whatever it holds
+abbrev pub OpensAny : ℕ → Type 0
+OpensAny kind = (s : List ℕ) → (m : TlsMessageHandshake) × (byType kind s ≡ accepted m)
 
 -- the walk before the first message
 abbrev pub start : TlsRecordWalk
@@ -48,8 +55,3 @@ moved s w = onTo w (metAt s (w .next))
 unfoldable pub walkAfter : ℕ → List ℕ → TlsRecordWalk
 walkAfter zero s = start
 walkAfter (suc k) s = moved s (walkAfter k s)
-
--- as an `Answer`, which has the paper's number and the values
-abbrev pub passedSays : PassedAnswer → Answer ℕ
-passedSays (Refused r) = refused r
-passedSays (Got n) = accepted n

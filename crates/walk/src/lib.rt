@@ -1,8 +1,10 @@
 // The walk over the messages of a handshake record, lent as its content.
+ghost use mathlib.Core.Bool.{true};
 ghost use mathlib.Core.Path.{_≡_};
 ghost use lib.ListN.{length};
 ghost use Rattle.message.specs.Messages.{messageSays};
-ghost use Rattle.walk.specs.Walks.{messages, moved, nextMessage, passed, passedSays, pastAll, start};
+ghost use Rattle.walk.specs.Walks.{OpensAny, messagesFrom, metHead, moved, nextMessage, pastAll, start};
+ghost use Rattle.envelope.specs.Heads.{headSays};
 ghost use Rattle.envelope.specs.Opening.{metAt};
 ghost use Rattle.refusal.specs.Answers.{refused};
 use envelope::HeadAnswer;
@@ -68,25 +70,33 @@ impl TlsRecordWalk {
     }
 }
 
-pub enum PassedAnswer {
-    Refused(Refusal),
-    Got(usize),
+// Whether a body of this type is opened whatever it holds.
+fn opens_any(kind: u8) -> bool
+    ensures { λ r. ⌜ (r ≡ true → OpensAny kind) ⌝ }
+{
+    match kind {
+        0x00 | 0x05 | 0x0c | 0x0e..=0x10 | 0x14 => true,
+        _ => false,
+    }
 }
 
-// Whether a message that begins at `at` can be opened: the place past it. The message itself is not handed out.
-pub fn pass_tls_message(s: &[u8], at: usize) -> PassedAnswer
-    ensures { λ r. ⌜ passedSays r ≡ passed (now (s .entry)) at ⌝ }
+// The head of the message that begins at `at`, where the message can be opened. The message itself is not handed out.
+pub fn meet_tls_message(s: &[u8], at: usize) -> HeadAnswer
+    ensures { λ r. ⌜ headSays r ≡ metHead (now (s .entry)) at ⌝ }
 {
     let head = match envelope::parse_tls_message_head(s, at) {
         HeadAnswer::Refused(r) => {
-            return PassedAnswer::Refused(r);
+            return HeadAnswer::Refused(r);
         }
         HeadAnswer::Got(h) => h,
     };
+    if opens_any(head.kind) {
+        return HeadAnswer::Got(head);
+    }
     let body = head.body;
     match envelope::parse_tls_handshake_body(head.kind, wire::view::part_of(s, body)) {
-        MessageAnswer::Refused(r) => PassedAnswer::Refused(refusal::inside(r, body.start)),
-        MessageAnswer::Got(_) => PassedAnswer::Got(head.next),
+        MessageAnswer::Refused(r) => HeadAnswer::Refused(refusal::inside(r, body.start)),
+        MessageAnswer::Got(_) => HeadAnswer::Got(head),
     }
 }
 
@@ -97,20 +107,21 @@ pub struct Tally {
     pub stop: Refusal,
 }
 
-pub fn count_messages(s: &[u8]) -> Tally
-    ensures { λ r. ⌜ r .count ≡ length (messages (now (s .entry))) ⌝ }
-    ensures { λ r. ⌜ r .end ≡ pastAll (messages (now (s .entry))) 0 ⌝ }
+// The messages the first of which begins at `from`.
+pub fn count_messages(s: &[u8], from: usize) -> Tally
+    ensures { λ r. ⌜ r .count ≡ length (messagesFrom (now (s .entry)) from) ⌝ }
+    ensures { λ r. ⌜ r .end ≡ pastAll (messagesFrom (now (s .entry)) from) from ⌝ }
     ensures { λ r. ⌜ metAt (now (s .entry)) (r .end) ≡ refused (r .stop) ⌝ }
 {
     let mut count: usize = 0;
-    let mut end: usize = 0;
+    let mut end: usize = from;
     loop {
-        match pass_tls_message(s, end) {
-            PassedAnswer::Refused(stop) => {
+        match meet_tls_message(s, end) {
+            HeadAnswer::Refused(stop) => {
                 return Tally { count, end, stop };
             }
-            PassedAnswer::Got(next) => {
-                end = next;
+            HeadAnswer::Got(h) => {
+                end = h.next;
                 count += 1;
             }
         }

@@ -14,13 +14,11 @@ use Rattle.refusal.specs.declared.Reason.the-variants.{Incomplete}
 use Rattle.refusal.proofs.Then.{not-both}
 use Rattle.wire.specs.Parts.{partOf}
 use Rattle.wire.specs.Numbers.{Bytes, be, bytesOf}
-use Rattle.wire.specs.declared.view.View.{View}
 use Rattle.wire.proofs.Parts.{part-in}
 use Rattle.wire.proofs.Numbers.{length-bytes, be-of, be-drop, number-got}
 use Rattle.field.specs.Fields.{ruleOf}
 use Rattle.field.specs.Standing.{fieldBytes, Obeys}
 use Rattle.field.specs.declared.Kind.the-variants.{Plain}
-use Rattle.field.proofs.Rules.{fixed-in}
 use Rattle.field.proofs.Steps.{length-counted, step-of, view-of}
 use Rattle.field.specs.Texts.{allowed}
 use Rattle.field.proofs.Texts.{obeys}
@@ -38,9 +36,9 @@ use Rattle.message.specs.declared.handshake.TlsMessageHandshake.the-variants.{H
 use Rattle.hellos.specs.Hellos.{helloRequestMessage, clientMessage}
 use Rattle.hellos.specs.Demand3.{IsDraft18}
 use Rattle.hellos.proofs.Opened as hellos
-use Rattle.opaque.specs.Whole.{wholeBody}
 use Rattle.envelope.specs.Heads.{headAt}
-use Rattle.envelope.specs.Opening.{byType, metAt}
+use Rattle.envelope.specs.Opening.{opened, byType, metAt}
+use Rattle.envelope.proofs.Whole.{whole-body}
 use Rattle.record.specs.Records.{raw}
 use Rattle.record.proofs.Whole.{all-records}
 use Rattle.record.specs.declared.TlsRecordHeader.{TlsRecordHeader}
@@ -82,17 +80,12 @@ written kind body t rest h e =
     (w .0, w .1, rw (w .3) at (every kind (w .0) rest h (w .2)))
 
 -- where the body is known, and what it is opened as
-opened : (kind : ℕ) (body : Answer (List ℕ)) (t rest b : List ℕ) (m : TlsMessageHandshake) → kind < 256 → messageText kind body ≡ accepted t → ((x : List ℕ) → body ≡ accepted x → b ≡ x)
+known-body : (kind : ℕ) (body : Answer (List ℕ)) (t rest b : List ℕ) (m : TlsMessageHandshake) → kind < 256 → messageText kind body ≡ accepted t → ((x : List ℕ) → body ≡ accepted x → b ≡ x)
     → byType kind b ≡ accepted m → Found kind b (accepted m) t rest
-opened kind body t rest b m h e is q =
+known-body kind body t rest b m h e is q =
     let w = written kind body t rest h e in
     let f : Found kind b (byType kind b) t rest = rw (is (w .0) (w .1)) (w .2) in
     rw q at f
-
--- a body that is handed out whole
-whole-body : (make : View → TlsMessageHandshake) (b : List ℕ) → wholeBody make (length b) b ≡ accepted (make (wholeOf b))
-unfolding wholeBody
-whole-body make b = rw (fixed-in (length b) b 0 (omega arith))
 
 all : (b : List ℕ) → partOf b (wholeOf b) ≡ b
 all b = rw (le-leb (0 + length b) (length b) (omega arith)) (take-length b)
@@ -115,11 +108,11 @@ not-draft18 : (b : List ℕ) (d : TlsServerHelloContents) → byVersion serverVe
 not-draft18 b d e i = not-both e (hellos.demand3 b .draft18Hello i .1)
 
 messages : (s rest : List ℕ) → Bytes s → Messages s rest
-unfolding handshakeText byType helloRequestMessage clientMessage
+unfolding handshakeText byType opened helloRequestMessage clientMessage
 messages s rest bytes = record {
-  helloRequest = λ t e. opened 0x00 (accepted []) t rest [] HelloRequest (omega arith) e (λ x d. cc) refl;
-  finished = λ v t e. opened 0x14 (viewText s v) t rest (partOf s v) _ (omega arith) e (λ x d. view-wrote s v d) (whole-body (λ w. Finished w) (partOf s v));
-  clientKeyExchange = λ k t e. opened 0x10 (exchangeText s k) t rest (exchangeBody s k) _ (omega arith) e (exchange-is s k) (whole-body (λ w. ClientKeyExchange (Unknown w)) (exchangeBody s k));
+  helloRequest = λ t e. known-body 0x00 (accepted []) t rest [] HelloRequest (omega arith) e (λ x d. cc) refl;
+  finished = λ v t e. known-body 0x14 (viewText s v) t rest (partOf s v) _ (omega arith) e (λ x d. view-wrote s v d) (whole-body (λ w. Finished w) (partOf s v));
+  clientKeyExchange = λ k t e. known-body 0x10 (exchangeText s k) t rest (exchangeBody s k) _ (omega arith) e (exchange-is s k) (whole-body (λ w. ClientKeyExchange (Unknown w)) (exchangeBody s k));
   clientHello = λ c t e. hello client 0x01 _ s c (helloText client s c) t rest (omega arith) e (λ b q.
       let a = demand3 .reading-again s bytes .clientHello c b q in
       (a .0, rw (a .1), a .2));

@@ -14,6 +14,7 @@ mod records;
 mod writes;
 
 use crate::{case::Case, domain, rng::Rng};
+pub use collect::elsewhere;
 use collect::Cases;
 use std::io;
 

@@ -7,24 +7,26 @@ use denote.Ref.{now}
 use borrow.Author.Needs.{needs}
 use Rattle.refusal.proofs.Told.{case}
 use Rattle.list.proofs.Walk.{rest-on, rest-end}
-use Rattle.walk.specs.Walks.{messages, pastAll, passedSays}
-use Rattle.walk.proofs.Walking.{left, by-messages, all-left, passed-got, passed-not}
+use Rattle.envelope.specs.Heads.{headSays}
+use Rattle.walk.specs.Walks.{messagesFrom, pastAll}
+use Rattle.walk.proofs.Walking.{left, by-messages, all-from, head-met, head-not-met}
 use Rattle.walk.proofs.count_messages.Statement.{statement}
 use Rattle.walk.proofs.count_messages.Tie as tie
 
 abbrev Inv-loop : tie.InvT-loop
-Inv-loop s count₀ end₀ count end = (count ≤ end) × (end ≤ length s) × (length (messages s) ≡ count + length (left s end)) × (pastAll (messages s) 0 ≡ pastAll (left s end) end)
+Inv-loop s from count₀ end₀ count end = (count ≤ end) × (length (messagesFrom s from) ≡ count + length (left s end)) × (pastAll (messagesFrom s from) from ≡ pastAll (left s end) end)
 
 abbrev μ-loop : tie.MeasureT-loop
-μ-loop s count₀ end₀ count end = length s - end
+μ-loop s from count₀ end₀ count end = length s - end
 
 loop-holds : tie.Need-loop-holds Inv-loop μ-loop
 loop-holds c =
     let s = now (c .before .args .s) in
-    (omega arith, omega arith, omega (arith, ap length (all-left s)), ap (λ xs. pastAll xs 0) (all-left s))
+    let from = c .before .args .from in
+    (omega arith, omega (arith, ap length (all-from s from)), ap (λ xs. pastAll xs from) (all-from s from))
 
-pass-tls-message-requires : tie.Need-pass-tls-message-requires Inv-loop μ-loop
-pass-tls-message-requires c κs = search needs
+meet-tls-message-requires : tie.Need-meet-tls-message-requires Inv-loop μ-loop
+meet-tls-message-requires c κs = search needs
 
 enum-known-stop : tie.Need-enum-known-stop Inv-loop μ-loop
 enum-known-stop c = search needs
@@ -33,24 +35,24 @@ returns : tie.Need-returns Inv-loop μ-loop
 unfolding pastAll
 returns c =
     let l = c .before .before .before .before in
-    let e = passed-not _ _ (case passedSays (c .before .before .before .pass-tls-message .ensures) (c .before .stop .given .1)) in
+    let e = head-not-met _ _ (case headSays (c .before .before .before .meet-tls-message .ensures) (c .before .stop .given .1)) in
     let z = rest-end (by-messages _) (l .loop .end) e in
-    (sym (l .loop .inv .2 ∙ rw z (omega arith)), (sym (l .loop .inv .3 ∙ rw z), e))
+    (sym (l .loop .inv .1 ∙ rw z (omega arith)), (sym (l .loop .inv .2 ∙ rw z), e))
 
-enum-known-next : tie.Need-enum-known-next Inv-loop μ-loop
-enum-known-next c = search needs
+enum-known-h : tie.Need-enum-known-h Inv-loop μ-loop
+enum-known-h c = search needs
 
 add-count : tie.Need-add-count Inv-loop μ-loop
 add-count c =
     let l = c .before .before .before .before in
-    let m = passed-got _ _ (case passedSays (c .before .before .before .pass-tls-message .ensures) (c .before .next .given .1)) in
+    let m = head-met _ _ (case headSays (c .before .before .before .meet-tls-message .ensures) (c .before .h .given .1)) in
     let i = by-messages _ .on (l .loop .end) _ (m .1) in
     omega (arith, i, m .2)
 
 loop-less : tie.Need-loop-less Inv-loop μ-loop
 loop-less c =
     let l = c .before .before .before .before in
-    let m = passed-got _ _ (case passedSays (c .before .before .before .pass-tls-message .ensures) (c .before .next .given .1)) in
+    let m = head-met _ _ (case headSays (c .before .before .before .meet-tls-message .ensures) (c .before .h .given .1)) in
     let i = by-messages _ .on (l .loop .end) _ (m .1) in
     omega (arith, i, m .2)
 
@@ -58,9 +60,9 @@ loop-again : tie.Need-loop-again Inv-loop μ-loop
 unfolding pastAll
 loop-again c =
     let l = c .before .before .before .before in
-    let m = passed-got _ _ (case passedSays (c .before .before .before .pass-tls-message .ensures) (c .before .next .given .1)) in
+    let m = head-met _ _ (case headSays (c .before .before .before .meet-tls-message .ensures) (c .before .h .given .1)) in
     let i = by-messages _ .on (l .loop .end) _ (m .1) in
-    (omega (arith, i, m .2), omega (arith, i, m .2), l .loop .inv .2 ∙ rw (rest-on (by-messages _) (l .loop .end) (m .1), m .2) (omega arith), l .loop .inv .3 ∙ rw (rest-on (by-messages _) (l .loop .end) (m .1), m .2))
+    (omega (arith, i, m .2), l .loop .inv .1 ∙ rw (rest-on (by-messages _) (l .loop .end) (m .1), m .2) (omega arith), l .loop .inv .2 ∙ rw (rest-on (by-messages _) (l .loop .end) (m .1), m .2))
 
 pub count-messages-spec : {M : Type 1} → statement M
 count-messages-spec =
@@ -69,10 +71,10 @@ count-messages-spec =
     Inv-loop
     μ-loop
     loop-holds
-    pass-tls-message-requires
+    meet-tls-message-requires
     enum-known-stop
     returns
-    enum-known-next
+    enum-known-h
     add-count
     loop-less
     loop-again)

@@ -1,0 +1,131 @@
+//! Families of short inputs that are taken to the last one: given bytes, then every
+//! word over a few letters, those that matter where they stand.
+
+use judge::functions::*;
+
+pub struct Family {
+    pub functions: &'static [&'static str],
+    pub frame: Frame,
+    /// Bytes that stand before the letters.
+    pub before: Vec<u8>,
+    pub letters: &'static [u8],
+    /// The longest word.
+    pub most: usize,
+    /// The length arguments of the readers that take one.
+    pub lengths: &'static [u64],
+}
+
+/// What stands round the bytes, announcing as many as there are.
+#[derive(Clone, Copy)]
+pub enum Frame {
+    Bare,
+    Message(u8),
+    Record,
+}
+
+const BYTES: [u8; 256] = {
+    let mut bytes = [0; 256];
+    let mut k = 0;
+    while k < 256 {
+        bytes[k] = k as u8;
+        k += 1;
+    }
+    bytes
+};
+const FEW: &[u8] = &[0, 1, 2];
+const SMALL: &[u8] = &[0, 1, 2, 3, 0xff];
+/// Round the longest id, too.
+const HELLO: &[u8] = &[0, 1, 2, 3, 0x20, 0x21, 0xff];
+
+pub fn all() -> Vec<Family> {
+    let mut all = vec![bare(&READING, &[], &BYTES, 2)];
+    records(&mut all);
+    messages(&mut all);
+    clients(&mut all);
+    servers(&mut all);
+    lists(&mut all);
+    others(&mut all);
+    all
+}
+
+fn bare(functions: &'static [&'static str], before: &[u8], letters: &'static [u8], most: usize) -> Family {
+    let lengths = &[0, 1, 2, 3, 4, u64::MAX];
+    Family { functions, frame: Frame::Bare, before: before.to_vec(), letters, most, lengths }
+}
+
+fn framed(frame: Frame, functions: &'static [&'static str], letters: &'static [u8], most: usize) -> Family {
+    Family { frame, ..bare(functions, &[], letters, most) }
+}
+
+/// Headers, lengths round the limit, and contents of small messages.
+fn records(all: &mut Vec<Family>) {
+    all.push(bare(&[HEADER, RAW, ENCRYPTED, PLAINTEXT], &[], &[0, 1, 3, 0x16, 0x41, 0xff], 5));
+    for kind in 0x13..=0x19 {
+        all.push(bare(&[RAW, ENCRYPTED, PLAINTEXT], &[kind, 3, 1], &[0, 1, 2, 0x40, 0x41, 0xff], 4));
+        all.push(bare(&[PLAINTEXT], &[kind, 3, 1, 0], &[0, 1, 4, 5, 14], 6));
+    }
+    all.push(framed(Frame::Record, &[PLAINTEXT], &[0, 1, 4, 14], 9));
+    all.push(framed(Frame::Record, &[PLAINTEXT], &[0, 1, 2, 3, 4, 5, 13, 20], 6));
+}
+
+/// Every type, and for those that are opened short bodies.
+fn messages(all: &mut Vec<Family>) {
+    for kind in 0..=255 {
+        all.push(bare(&[MESSAGE], &[kind], &[0, 1, 2, 0xff], 4));
+    }
+    for kind in KINDS {
+        all.push(framed(Frame::Message(kind), &[MESSAGE], SMALL, 6));
+    }
+}
+
+/// The given bytes cut at each place, and words behind all of them.
+fn behind(all: &mut Vec<Family>, functions: &'static [&'static str], before: &[u8], more: [usize; 2]) {
+    for n in 0..before.len() {
+        all.push(bare(functions, &before[..n], HELLO, 1));
+    }
+    all.push(bare(functions, before, HELLO, more[0]));
+    all.push(bare(functions, before, FEW, more[1]));
+}
+
+/// A version, and a random whose bytes tell their places.
+fn fixed(version: [u8; 2]) -> Vec<u8> {
+    version.into_iter().chain(0xc0..0xe0).collect()
+}
+
+fn clients(all: &mut Vec<Family>) {
+    behind(all, &[CLIENT_HELLO, MSG_CLIENT_HELLO], &fixed([3, 3]), [6, 11]);
+    // With an id, with three ciphers, and all but the block.
+    for more in [&[2, 7, 8][..], &[0, 0, 6], &[0, 0, 2, 0x13, 1, 1, 0]] {
+        let before = [&fixed([3, 1])[..], more].concat();
+        all.push(bare(&[CLIENT_HELLO, MSG_CLIENT_HELLO], &before, SMALL, 5));
+        all.push(bare(&[CLIENT_HELLO, MSG_CLIENT_HELLO], &before, FEW, 9));
+    }
+    for frame in [Frame::Message(1), Frame::Message(2)] {
+        all.push(Family { frame, ..bare(&[MESSAGE], &fixed([3, 3]), FEW, 8) });
+    }
+}
+
+fn servers(all: &mut Vec<Family>) {
+    for version in [[3, 0], [3, 1], [3, 2], [3, 3], [3, 4], [0x7f, 0x12]] {
+        behind(all, &[SERVER_HELLO, MSG_SERVER_HELLO], &fixed(version), [5, 8]);
+    }
+    behind(all, &[MSG_RETRY], &[0x7f, 0x12, 0x13, 1], [5, 8]);
+}
+
+fn lists(all: &mut Vec<Family>) {
+    all.push(bare(&[MSG_CERTIFICATE], &[], SMALL, 6));
+    all.push(bare(&[MSG_CERTIFICATE], &[0, 0], &[0, 1, 3, 4, 6], 8));
+    all.push(bare(&[MSG_CERTIFICATE], &[0, 0], FEW, 9));
+    all.push(bare(&[MSG_CERTIFICATE], &[0, 0, 10], FEW, 11));
+    all.push(bare(&[REQUEST, MSG_REQUEST], &[], &[0, 1, 2, 3, 4], 7));
+    all.push(bare(&[REQUEST, MSG_REQUEST], &[], FEW, 11));
+    all.push(bare(&[REQUEST, MSG_REQUEST], &[0, 0, 6], FEW, 9));
+    all.push(bare(&[REQUEST, MSG_REQUEST], &[1, 0x40, 0, 2, 4, 3, 0, 7], FEW, 8));
+}
+
+fn others(all: &mut Vec<Family>) {
+    all.push(bare(&[STATUS, MSG_STATUS, NEXT, MSG_NEXT], &[], SMALL, 7));
+    all.push(bare(&[MSG_KEY_UPDATE, MSG_HELLO_REQUEST], &[], SMALL, 4));
+    let lengths = &[0, 1, 2, 3, 4, 5, 6, 7, 8, 1 << 32, u64::MAX - 3, u64::MAX];
+    all.push(Family { lengths, ..bare(&SIZED, &[], SMALL, 6) });
+}

@@ -1,0 +1,81 @@
+//! Wrong answers, laid over right ones.
+
+mod readings;
+mod writings;
+
+use crate::port::{Port, Walk};
+use judge::case::Case;
+
+pub type Wrote = Result<usize, u64>;
+
+/// A fault, which does nothing where it does not apply.
+#[derive(Clone, Copy)]
+pub enum Fault {
+    /// Changes the numbers of a reading.
+    Reading(fn(&Case, &mut Vec<u64>)),
+    /// Changes the room, which was `before`, and the answer of a writing.
+    Writing(fn(&Case, &[u8], &mut [u8], Wrote) -> Wrote),
+    /// Changes the walk over a record.
+    Walk(fn(Walk) -> Walk),
+    /// Changes what the original reads.
+    Original(fn(&Case, &mut Vec<u64>)),
+}
+
+pub struct Faulty<P> {
+    pub port: P,
+    pub fault: Fault,
+}
+
+impl<P: Port> Port for Faulty<P> {
+    fn read(&self, case: &Case, to: &mut Vec<u64>) {
+        self.port.read(case, to);
+        if let Fault::Reading(change) = self.fault {
+            change(case, to);
+        }
+    }
+
+    fn walk(&self, case: &Case) -> Walk {
+        let walk = self.port.walk(case);
+        match self.fault {
+            Fault::Walk(change) => change(walk),
+            _ => walk,
+        }
+    }
+
+    fn write(&self, case: &Case, room: &mut [u8]) -> Wrote {
+        let Fault::Writing(change) = self.fault else { return self.port.write(case, room) };
+        let before = room.to_vec();
+        let wrote = self.port.write(case, room);
+        change(case, &before, room, wrote)
+    }
+}
+
+/// What is wrong, and how it is made.
+pub const ALL: [(&str, Fault); 26] = [
+    ("the rest one byte further", Fault::Reading(readings::rest)),
+    ("another refusal", Fault::Reading(readings::refusal)),
+    ("a refusal for a value", Fault::Reading(readings::refused)),
+    ("a value for a refusal", Fault::Reading(readings::accepted)),
+    ("the last certificate left out", Fault::Reading(readings::missing)),
+    ("the last certificate twice", Fault::Reading(readings::twice)),
+    ("a part one byte longer", Fault::Reading(readings::longer)),
+    ("a part one byte later", Fault::Reading(readings::later)),
+    ("a cipher with its bytes turned round", Fault::Reading(readings::cipher)),
+    ("an absent block as an empty one", Fault::Reading(readings::absent)),
+    ("the last message of a record left out", Fault::Reading(readings::message)),
+    ("a number too many", Fault::Reading(readings::more)),
+    ("a huge length taken as 0", Fault::Reading(readings::huge)),
+    ("an alert record as Switch", Fault::Reading(readings::alert)),
+    ("a byte too many told as dropped", Fault::Walk(readings::dropped)),
+    ("a walk that ends with Incomplete", Fault::Walk(readings::ended)),
+    ("a panic of the port", Fault::Reading(readings::panic)),
+    ("a panic of the original", Fault::Original(readings::panic)),
+    ("a written byte changed", Fault::Writing(writings::byte)),
+    ("a byte written behind the text", Fault::Writing(writings::behind)),
+    ("a byte too many told", Fault::Writing(writings::count)),
+    ("NoRoom where the text just fits", Fault::Writing(writings::fits)),
+    ("NoRoom with a byte written", Fault::Writing(writings::touched)),
+    ("a cut length written", Fault::Writing(writings::cut)),
+    ("a record that is too large as BadLength", Fault::Writing(writings::large)),
+    ("NoRoom before NotYetImplemented", Fault::Writing(writings::order)),
+];

@@ -1,0 +1,108 @@
+//! Faults of the readers: each changes the numbers of some answers.
+#![allow(clippy::ptr_arg)] // they all have one type
+
+use crate::port::Walk;
+use judge::case::Case;
+use judge::functions::*;
+
+pub fn rest(case: &Case, to: &mut Vec<u64>) {
+    if case.function == MSG_CLIENT_HELLO && to[0] == 0 {
+        to[1] += 1;
+    }
+}
+
+pub fn refusal(_: &Case, to: &mut Vec<u64>) {
+    if *to == [4] {
+        *to = vec![1];
+    }
+}
+
+pub fn refused(case: &Case, to: &mut Vec<u64>) {
+    if case.function == SERVER_HELLO && case.input.starts_with(&[3, 0]) && to[0] == 0 {
+        *to = vec![5];
+    }
+}
+
+pub fn accepted(case: &Case, to: &mut Vec<u64>) {
+    if case.function == MSG_KEY_UPDATE && *to == [1] {
+        *to = vec![0, 0, 24, 0];
+    }
+}
+
+/// The count stands behind the place of the rest and the kind.
+pub fn missing(case: &Case, to: &mut Vec<u64>) {
+    if case.function == MSG_CERTIFICATE && to[0] == 0 && to[3] >= 2 {
+        to[3] -= 1;
+        to.truncate(to.len() - 2);
+    }
+}
+
+pub fn twice(case: &Case, to: &mut Vec<u64>) {
+    if case.function == MSG_CERTIFICATE && to[0] == 0 && to[3] >= 2 {
+        to[3] += 1;
+        to.extend_from_within(to.len() - 2..);
+    }
+}
+
+pub fn longer(case: &Case, to: &mut Vec<u64>) {
+    if case.function == RAW && to[0] == 0 && to[6] >= 2 {
+        to[6] += 1;
+    }
+}
+
+pub fn later(case: &Case, to: &mut Vec<u64>) {
+    if case.function == NEXT && to[0] == 0 && to[5] >= 1 {
+        to[4] += 1;
+    }
+}
+
+/// Of a hello without id the count of ciphers is the seventh number.
+pub fn cipher(case: &Case, to: &mut Vec<u64>) {
+    if case.function == CLIENT_HELLO && to[0] == 0 && to[5] == 0 && to[6] >= 2 {
+        to[8] = u64::from((to[8] as u16).swap_bytes());
+    }
+}
+
+pub fn absent(case: &Case, to: &mut Vec<u64>) {
+    if case.function == MSG_RETRY && to[0] == 0 && to.last() == Some(&0) && to.len() == 6 {
+        *to = [&to[..5], &[1, to[1], 0]].concat();
+    }
+}
+
+/// Of a record of HelloRequests, which have a kind alone.
+pub fn message(case: &Case, to: &mut Vec<u64>) {
+    if case.function == PLAINTEXT && to[0] == 0 && to[5] >= 2 && to[6..].iter().all(|kind| *kind == 0) {
+        to[5] -= 1;
+        to.pop();
+    }
+}
+
+pub fn more(case: &Case, to: &mut Vec<u64>) {
+    if case.function == ENCRYPTED && to[0] == 0 {
+        to.push(0);
+    }
+}
+
+pub fn huge(case: &Case, to: &mut Vec<u64>) {
+    if case.function == MSG_SERVER_DONE && case.length > Some(u64::from(u32::MAX)) {
+        *to = vec![0, 0, 14, 0, 0];
+    }
+}
+
+pub fn alert(case: &Case, to: &mut Vec<u64>) {
+    if case.input.first() == Some(&0x15) && *to == [10] {
+        *to = vec![6];
+    }
+}
+
+pub fn panic(case: &Case, to: &mut Vec<u64>) {
+    assert!(case.function != STATUS || to[0] != 0 || to[4] < 3, "a blob of three bytes and more");
+}
+
+pub fn dropped(walk: Walk) -> Walk {
+    Walk { dropped: walk.dropped + usize::from(walk.dropped > 0), ..walk }
+}
+
+pub fn ended(walk: Walk) -> Walk {
+    Walk { end: if walk.messages > 1 { 1 } else { walk.end }, ..walk }
+}

@@ -1,0 +1,53 @@
+//! Faults of the writers: each changes the room or the answer of some calls.
+
+use super::Wrote;
+use judge::case::Case;
+use judge::functions::*;
+
+pub fn byte(case: &Case, _: &[u8], room: &mut [u8], wrote: Wrote) -> Wrote {
+    if let (GEN_CLIENT_HELLO, Ok(n)) = (case.function, wrote) {
+        room[n - 1] ^= 1;
+    }
+    wrote
+}
+
+pub fn behind(case: &Case, _: &[u8], room: &mut [u8], wrote: Wrote) -> Wrote {
+    if let (GEN_FINISHED, Ok(n)) = (case.function, wrote) {
+        room.iter_mut().skip(n).take(1).for_each(|b| *b = 0);
+    }
+    wrote
+}
+
+pub fn count(case: &Case, _: &[u8], _: &mut [u8], wrote: Wrote) -> Wrote {
+    wrote.map(|n| n + usize::from(case.function == GEN_DRAFT_18))
+}
+
+pub fn fits(case: &Case, before: &[u8], room: &mut [u8], wrote: Wrote) -> Wrote {
+    if case.function == GEN_CLIENT_KEY && wrote == Ok(room.len()) {
+        room.copy_from_slice(before);
+        return Err(9);
+    }
+    wrote
+}
+
+pub fn touched(case: &Case, _: &[u8], room: &mut [u8], wrote: Wrote) -> Wrote {
+    if case.function == GEN_PLAINTEXT && wrote == Err(9) {
+        room[0] = !room[0];
+    }
+    wrote
+}
+
+pub fn cut(case: &Case, _: &[u8], room: &mut [u8], wrote: Wrote) -> Wrote {
+    if case.function == GEN_SERVER_HELLO && wrote == Err(8) {
+        return Ok(room.len().min(4));
+    }
+    wrote
+}
+
+pub fn large(_: &Case, _: &[u8], _: &mut [u8], wrote: Wrote) -> Wrote {
+    wrote.map_err(|number| if number == 7 { 8 } else { number })
+}
+
+pub fn order(_: &Case, _: &[u8], room: &mut [u8], wrote: Wrote) -> Wrote {
+    wrote.map_err(|number| if number == 12 && room.is_empty() { 9 } else { number })
+}

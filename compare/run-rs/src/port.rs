@@ -1,0 +1,26 @@
+//! What the comparison asks of the port.
+
+use judge::case::Case;
+
+pub trait Port {
+    /// The numbers of a reader's answer, put behind those that are there.
+    fn read(&self, case: &Case, to: &mut Vec<u64>);
+
+    /// The walk over the messages of a plaintext record that was accepted.
+    fn walk(&self, case: &Case) -> Walk;
+
+    /// Writes the value that a case says into the room: how many bytes, or the number
+    /// of the refusal.
+    fn write(&self, case: &Case, room: &mut [u8]) -> Result<usize, u64>;
+}
+
+/// What the port adds to a plaintext record.
+#[derive(Clone, Copy, Debug, PartialEq, Eq)]
+pub struct Walk {
+    /// How many messages the walk meets.
+    pub messages: usize,
+    /// The number of the refusal behind the last of them.
+    pub end: u64,
+    /// How many bytes are told to be dropped.
+    pub dropped: usize,
+}

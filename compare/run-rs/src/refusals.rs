@@ -1,0 +1,22 @@
+//! The refusals by their numbers.
+
+pub const NAMES: [&str; 13] = [
+    "accepted",
+    "Incomplete",
+    "Complete",
+    "Verify",
+    "LengthValue",
+    "Tag",
+    "Switch",
+    "TooLarge",
+    "BadLength",
+    "NoRoom",
+    "Elsewhere",
+    "NoSuch",
+    "NotYetImplemented",
+];
+
+pub fn told(number: u64) -> String {
+    let name = usize::try_from(number).ok().and_then(|k| NAMES.get(k));
+    format!("refused with {number}, {}", name.unwrap_or(&"no such number"))
+}

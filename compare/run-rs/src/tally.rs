@@ -1,0 +1,117 @@
+//! How many cases were compared, and what was answered.
+
+use crate::listed::{self, Listed};
+use crate::refusals::NAMES;
+use crate::verdict::Verdict;
+use judge::case::Case;
+use judge::functions::{is_writer, PLAINTEXT, READING, WRITING};
+
+const FUNCTIONS: usize = READING.len() + WRITING.len();
+const NUMBERS: usize = NAMES.len();
+
+/// Inputs over so many bytes are long.
+const LONG: usize = 16_384;
+
+pub struct Tally {
+    /// By function, and by the first number of the port's answer.
+    answers: [[u64; NUMBERS]; FUNCTIONS],
+    listed: [u64; listed::ALL.len()],
+    pub cases: u64,
+    long: u64,
+}
+
+impl Tally {
+    pub fn new() -> Self {
+        Tally { answers: [[0; NUMBERS]; FUNCTIONS], listed: [0; listed::ALL.len()], cases: 0, long: 0 }
+    }
+
+    pub fn add(&mut self, case: &Case, verdict: Verdict) {
+        self.cases += 1;
+        self.long += u64::from(case.input.len() > LONG);
+        let number = match verdict {
+            Verdict::Same(number) => number,
+            Verdict::Listed(listed) => listed.number(),
+            Verdict::Differs => return,
+        };
+        self.answers[row(case.function)][number as usize] += 1;
+        if let Verdict::Listed(listed) = verdict {
+            self.listed[listed as usize] += 1;
+        }
+        if number == 0 {
+            self.add_accepted(case.function);
+        }
+    }
+
+    /// Every text was also asked for in a room that is too short, every record walked over.
+    fn add_accepted(&mut self, function: &str) {
+        if is_writer(function) {
+            self.listed[Listed::NoRoom as usize] += 1;
+        }
+        if function == PLAINTEXT {
+            self.listed[Listed::Dropped as usize] += 1;
+            self.listed[Listed::NoSuch as usize] += 1;
+        }
+    }
+
+    /// The tables of functions, refusals and listed differences.
+    pub fn table(&self) -> String {
+        [self.functions(), self.refusals(), self.differences()].join("\n")
+    }
+
+    fn functions(&self) -> String {
+        let mut out = format!("{:<44}{:>14}{:>14}\n", "Function", "Cases", "Accepted");
+        let mut line = |name: &str, all: u64, accepted: u64| {
+            out += &format!("{name:<44}{:>14}{:>14}\n", grouped(all), grouped(accepted));
+        };
+        for (name, answers) in READING.into_iter().chain(WRITING).zip(&self.answers) {
+            line(name, answers.iter().sum(), answers[0]);
+        }
+        line("all", self.cases, self.of_number(0));
+        out + &format!("{} of the inputs have more than {LONG} bytes\n", grouped(self.long))
+    }
+
+    fn refusals(&self) -> String {
+        let mut out = format!("{:>4}  {:<52}{:>14}\n", "No.", "Refusal", "Answers");
+        for (number, name) in NAMES.iter().enumerate().skip(1) {
+            let besides = match number {
+                9 => self.listed[Listed::NoRoom as usize],
+                11 => self.listed[Listed::NoSuch as usize],
+                _ => 0,
+            };
+            let answers = self.of_number(number) + besides;
+            out += &format!("{number:>4}  {name:<52}{:>14}\n", grouped(answers));
+        }
+        out
+    }
+
+    fn differences(&self) -> String {
+        let mut out =
+            format!("{:<44}{:>14}{:>14}  {}\n", "Listed difference", "Port answers", "Times", "Listed under");
+        for (listed, times) in listed::ALL.into_iter().zip(self.listed) {
+            let (heading, item) = listed.place();
+            out += &format!("{item:<44}{:>14}{:>14}  {heading}\n", listed.number(), grouped(times));
+        }
+        out
+    }
+
+    fn of_number(&self, number: usize) -> u64 {
+        self.answers.iter().map(|answers| answers[number]).sum()
+    }
+}
+
+fn row(name: &str) -> usize {
+    READING.iter().chain(&WRITING).position(|known| *known == name).expect("a known function")
+}
+
+/// The digits in groups of three.
+pub fn grouped(n: u64) -> String {
+    let digits = n.to_string();
+    let mut out = String::new();
+    for (at, digit) in digits.chars().enumerate() {
+        if at > 0 && (digits.len() - at).is_multiple_of(3) {
+            out.push(',');
+        }
+        out.push(digit);
+    }
+    out
+}

@@ -1,0 +1,44 @@
+-- `norrabist_c::norrabist_parse_tls_handshake_server_hello` meets its contract: the refusal of the reader, or the numbers of its message. Assumes nothing.
+use Rattle.refusal.proofs.Told.{case}
+use Rattle.server.specs.Server.{serverSays}
+use Rattle.norrabist_c.proofs.Exports.{none-told, all-told}
+use borrow.Author.Needs.{needs}
+use Rattle.norrabist_c.proofs.contents.norrabist_parse_tls_handshake_server_hello.Statement.{statement}
+use Rattle.norrabist_c.proofs.contents.norrabist_parse_tls_handshake_server_hello.Tie as tie
+
+parse-tls-handshake-server-hello-requires : tie.Need-parse-tls-handshake-server-hello-requires
+parse-tls-handshake-server-hello-requires c κs = search needs
+
+enum-known-r : tie.Need-enum-known-r
+enum-known-r c = search needs
+
+refusal-number-requires : tie.Need-refusal-number-requires
+refusal-number-requires c κs = search needs
+
+enum-known-c : tie.Need-enum-known-c
+enum-known-c c = search needs
+
+tell-message-requires : tie.Need-tell-message-requires
+tell-message-requires c κs = search needs
+
+returns : tie.Need-returns
+returns c = none-told _ _ (case serverSays (c .before .before .before .before .parse-tls-handshake-server-hello .ensures) (c .before .before .r .given .1)) (c .refusal-number .ensures)
+
+same-length : tie.Need-same-length
+same-length c = search needs
+
+returns-2 : tie.Need-returns-2
+returns-2 c = all-told _ _ (case serverSays (c .before .before .before .before .before .before .before .parse-tls-handshake-server-hello .ensures) (c .before .before .before .before .before .c .given .1)) (c .before .before .tell-message .ensures)
+
+pub norrabist-parse-tls-handshake-server-hello-spec : {M : Type 1} → statement M
+norrabist-parse-tls-handshake-server-hello-spec =
+    tie.close
+    (tie.spec
+    parse-tls-handshake-server-hello-requires
+    enum-known-r
+    refusal-number-requires
+    enum-known-c
+    tell-message-requires
+    returns
+    same-length
+    returns-2)

@@ -1,0 +1,58 @@
+-- What an export answers. The numbers of a value are put into the lent array as a text is into an output (`wire/specs/Puts.antt`): the answer is
+-- the paper's number, 0 where all of them are in; a refusal, NoRoom among them, changes nothing.
+use Prim.Native.Nat.{ℕ}
+use mathlib.Core.List.{List, [], _∷_, _++_}
+use Rattle.refusal.specs.Answers.{Answer, accepted, refused, then, numberIn}
+use Rattle.wire.specs.Puts.{room}
+use Rattle.list.specs.Items.{orNoSuch}
+use Rattle.message.specs.declared.handshake.TlsMessageHandshake.{TlsMessageHandshake}
+use Rattle.envelope.specs.Opening.{Met, metAt}
+use Rattle.record.specs.declared.TlsRecordHeader.{TlsRecordHeader}
+use Rattle.record.specs.declared.TlsRawRecord.{TlsRawRecord}
+use Rattle.record.specs.declared.TlsEncrypted.{TlsEncrypted}
+use Rattle.plaintext.specs.declared.TlsPlaintext.{TlsPlaintext}
+use Rattle.plaintext.specs.declared.TlsPlaintextOpened.{TlsPlaintextOpened}
+use Rattle.tell.specs.Messages.{messageNumbers, partNumbers, told}
+use Rattle.hear.specs.Heard.{heard}
+use Rattle.genmessage.specs.Messages.{handshakeText}
+
+-- the paper's number of putting a text in at the front
+abbrev pub answered : Answer (List ℕ) → List ℕ → ℕ
+answered t d = numberIn (room t 0 d)
+
+-- how many bytes were written, where they were; else what stood there
+abbrev pub countOr : ℕ → Answer ℕ → ℕ
+countOr n (accepted m) = m
+countOr n (refused r) = n
+
+abbrev pub headerNumbers : TlsRecordHeader → List ℕ
+headerNumbers h = h .«record_type» ∷ h .version ∷ h .len ∷ []
+
+abbrev pub rawNumbers : TlsRawRecord → List ℕ
+rawNumbers x = headerNumbers (x .hdr) ++ (partNumbers (x .«data») ++ (x .next ∷ []))
+
+abbrev pub encryptedNumbers : TlsEncrypted → List ℕ
+encryptedNumbers x = headerNumbers (x .hdr) ++ (partNumbers (x .msg .blob) ++ (x .next ∷ []))
+
+abbrev pub plaintextNumbers : TlsPlaintext → List ℕ
+plaintextNumbers x = headerNumbers (x .hdr) ++ (partNumbers (x .msg) ++ (x .count ∷ x .dropped ∷ x .next ∷ []))
+
+-- a message that was met: where its body lies, where the next one begins, and the message
+abbrev pub metNumbers : Met → List ℕ
+metNumbers x = partNumbers (x .head .body) ++ (x .head .next ∷ messageNumbers (x .says))
+
+-- a record and its first message
+abbrev pub openedNumbers : TlsPlaintextOpened → List ℕ
+openedNumbers x = plaintextNumbers (x .«record») ++ metNumbers (record { head = x .head; says = x .message })
+
+-- the next message of a walk, NoSuch past the last
+abbrev pub nextNumbers : List ℕ → ℕ → Answer (List ℕ)
+nextNumbers s at = told metNumbers (orNoSuch (metAt s at))
+
+-- what is written of a message handed over as numbers
+abbrev pub handedText : List ℕ → List ℕ → Answer (List ℕ)
+handedText s m = then (heard m) (λ x. handshakeText s x)
+
+-- the header of a record to be written: its length is not looked at
+abbrev pub headed : ℕ → ℕ → TlsRecordHeader
+headed t v = record { «record_type» = t; version = v; len = 0 }

@@ -1,0 +1,62 @@
+// The writers. `count` is set to how many bytes were written, where they were.
+ghost use mathlib.Core.Path.{_≡_};
+ghost use Rattle.genrecord.specs.Records.{recordText};
+ghost use Rattle.norrabist_c.specs.Told.{answered, countOr, handedText, headed};
+ghost use Rattle.wire.specs.Puts.{room, written};
+use message::handshake::MessageAnswer;
+use record::TlsRecordHeader;
+use wire::output::WriteAnswer;
+
+// The message that the numbers `m` tell of, its parts within `i`.
+#[no_mangle]
+pub extern "C" fn norrabist_gen_tls_messagehandshake(
+    m: &[usize],
+    i: &[u8],
+    out: &mut [u8],
+    count: &mut usize,
+) -> u8
+    ensures { λ r. ⌜ r ≡ answered (handedText (now (i .entry)) (now (m .entry))) (now (out .entry)) ⌝ }
+    ensures { λ _. ⌜ now (out .exit) ≡ written (handedText (now (i .entry)) (now (m .entry))) 0 (now (out .entry)) ⌝ }
+    ensures { λ _. ⌜ now (count .exit) ≡ countOr (now (count .entry)) (room (handedText (now (i .entry)) (now (m .entry))) 0 (now (out .entry))) ⌝ }
+{
+    let value = match hear::hear_message(m) {
+        MessageAnswer::Refused(r) => {
+            return refusal::refusal_number(r);
+        }
+        MessageAnswer::Got(x) => x,
+    };
+    match genmessage::gen_tls_messagehandshake(value, i, out) {
+        WriteAnswer::Refused(r) => refusal::refusal_number(r),
+        WriteAnswer::Wrote(n) => {
+            *count = n;
+            0
+        }
+    }
+}
+
+// A record of that type and version round `msg`, which is not opened.
+#[no_mangle]
+pub extern "C" fn norrabist_gen_tls_plaintext(
+    record_type: u8,
+    version: u16,
+    msg: &[u8],
+    out: &mut [u8],
+    count: &mut usize,
+) -> u8
+    ensures { λ r. ⌜ r ≡ answered (recordText (headed «record_type» version) (now (msg .entry))) (now (out .entry)) ⌝ }
+    ensures { λ _. ⌜ now (out .exit) ≡ written (recordText (headed «record_type» version) (now (msg .entry))) 0 (now (out .entry)) ⌝ }
+    ensures { λ _. ⌜ now (count .exit) ≡ countOr (now (count .entry)) (room (recordText (headed «record_type» version) (now (msg .entry))) 0 (now (out .entry))) ⌝ }
+{
+    let hdr = TlsRecordHeader {
+        record_type,
+        version,
+        len: 0,
+    };
+    match genrecord::gen_tls_plaintext(hdr, msg, out) {
+        WriteAnswer::Refused(r) => refusal::refusal_number(r),
+        WriteAnswer::Wrote(len) => {
+            *count = len;
+            0
+        }
+    }
+}

@@ -1,0 +1,97 @@
+//! The original's recorded answers, given by the port too.
+
+mod support;
+
+use norrabist::{parse_tls_plaintext, record_walk_next, Refusal};
+use std::io::{self, Write};
+use support::{answer, functions, text, writing};
+
+/// The recorded list.
+const LIST: &str = concat!(env!("CARGO_MANIFEST_DIR"), "/../compare/recorded.txt");
+const AT_LEAST: usize = 9_200;
+
+#[test]
+fn answers_as_recorded() {
+    let list = std::fs::read_to_string(LIST).unwrap_or_else(|e| panic!("{LIST}: {e}"));
+    let mut counts = vec![0; functions().len()];
+    let mut faults = Vec::new();
+    for (k, text) in list.lines().enumerate().filter(|(_, text)| !text.starts_with('#')) {
+        match compare(text) {
+            Ok(function) => counts[function] += 1,
+            Err(fault) => faults.push(format!("line {}: {fault}", k + 1)),
+        }
+    }
+    let cases: usize = counts.iter().sum();
+    // not by `println!`, which is seen where a test fails alone
+    writeln!(io::stdout(), "recorded list: {cases} cases as recorded, {} not", faults.len()).expect("output");
+    assert!(faults.is_empty(), "{} differ:\n{}", faults.len(), faults[..faults.len().min(20)].join("\n"));
+    assert!(cases >= AT_LEAST, "{cases} cases, and not {AT_LEAST}");
+    assert!(counts.iter().all(|count| *count > 0), "a function without a case");
+}
+
+/// The place of the function among all, or what differs.
+fn compare(line: &str) -> Result<usize, String> {
+    let case = text::line(line).ok_or("cannot be read")?;
+    let place = functions().iter().position(|name| *name == case.function).ok_or("no such function")?;
+    let got = answer(case.function, case.len, &case.input);
+    if got != case.answer {
+        let k = got.iter().zip(&case.answer).take_while(|(a, b)| a == b).count();
+        let (got, recorded) = (got.get(k), case.answer.get(k));
+        return Err(format!("{}, number {k}: {got:?}, recorded {recorded:?}", case.function));
+    }
+    if case.function.starts_with("gen_") {
+        outputs(case.function, &case.input, &case.answer)?;
+    }
+    if case.function == "parse_tls_plaintext" {
+        walks(&case.input)?;
+    }
+    Ok(place)
+}
+
+/// Whatever the output held, its front is the text and the rest as it was; one byte less is no room, and a refusal
+/// changes nothing.
+fn outputs(name: &str, input: &[u8], answer: &[u64]) -> Result<(), String> {
+    let text: Vec<u8> = answer.iter().skip(2).map(|b| *b as u8).collect();
+    for fill in [0x00, 0xa5, 0xff] {
+        let mut out = vec![fill; writing::room(input)];
+        let mut expected = out.clone();
+        expected[..text.len()].copy_from_slice(&text);
+        writing::write(name, input, &mut out);
+        if out != expected {
+            return Err(format!("{name}: an output of {fill:#x} is not the text and {fill:#x} behind it"));
+        }
+        if answer[0] != 0 {
+            continue;
+        }
+        let mut out = vec![fill; text.len() - 1];
+        let got = writing::write(name, input, &mut out);
+        if got != Some(Err(Refusal::NoRoom)) || out.iter().any(|b| *b != fill) {
+            return Err(format!("{name}: one byte too few gives {got:?}"));
+        }
+    }
+    Ok(())
+}
+
+/// The messages of a record are the same by their list, by their heads and by the walk, and end before the bytes
+/// dropped.
+fn walks(input: &[u8]) -> Result<(), String> {
+    let Ok((_, record)) = parse_tls_plaintext(input) else { return Ok(()) };
+    let content = record.msg.as_bytes();
+    let (mut at, mut count) = (0, 0);
+    let mut heads = record.msg.heads();
+    for message in &record.msg {
+        let (walked, next) =
+            record_walk_next(content, at).map_err(|r| format!("the walk ends at {at}: {r}"))?;
+        let head = heads.next().ok_or("no head")?;
+        if walked != message || head.kind != message.handshake_type() || head.body != &content[at + 4..next] {
+            return Err(format!("the message at {at} differs"));
+        }
+        (at, count) = (next, count + 1);
+    }
+    let ended = record_walk_next(content, at) == Err(Refusal::NoSuch) && heads.next().is_none();
+    let counted = count == record.count() && count == record.msg.len() && !record.msg.is_empty();
+    if ended && counted && content.len() - at == record.dropped() {
+        return Ok(());
+    }
+    Err(format!("{count} messages, the last ends at {at}: ended {ended}, counted {counted}"))
+}

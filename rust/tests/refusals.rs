@@ -1,0 +1,113 @@
+//! Each refusal once, with its number and name, and what a refused writing leaves.
+
+use norrabist::*;
+
+const NAMES: [&str; 12] = [
+    "Incomplete",
+    "Complete",
+    "Verify",
+    "LengthValue",
+    "Tag",
+    "Switch",
+    "TooLarge",
+    "BadLength",
+    "NoRoom",
+    "Elsewhere",
+    "NoSuch",
+    "NotYetImplemented",
+];
+
+/// A hello with every part.
+fn hello<'a>() -> TlsClientHelloContents<'a> {
+    let ciphers = List::new(&[0xc0, 0x2c, 0xc0, 0x30]);
+    TlsClientHelloContents::new(
+        0x0303,
+        &[7; 32],
+        Some(&[5; 8]),
+        ciphers,
+        List::new(&[0]),
+        Some(&[0, 23, 0, 0]),
+    )
+}
+
+/// A ClientHello body up to the id's length, and what follows.
+fn client(rest: &[u8]) -> Option<Refusal> {
+    let body = [&[3, 3][..], &[0; 32], rest].concat();
+    parse_tls_handshake_client_hello(&body).err()
+}
+
+/// An example of each, by its number.
+fn refused() -> [Option<Refusal>; 12] {
+    let short = TlsClientHelloContents { random: &[7; 31], ..hello() };
+    let unwritten = TlsMessageHandshake::ServerDone(&[]);
+    let mut out = [0; 100];
+    [
+        client(&[]),
+        parse_tls_plaintext(&[0x16, 3, 3, 0, 4, 1, 0, 0, 0]).err(),
+        client(&[33]),
+        client(&[0, 0, 1, 0]),
+        parse_tls_handshake_server_hello(&[3, 4]).err(),
+        parse_tls_message_handshake(&[3, 0, 0, 0]).err(),
+        parse_tls_raw_record(&[0x16, 3, 3, 0x41, 0x01]).err(),
+        gen_tls_clienthello(&short, &mut out).err(),
+        gen_tls_hellorequest(&mut out[..3]).err(),
+        parse_tls_plaintext(&[0x15, 3, 3, 0, 2, 1, 0]).err(),
+        record_walk_next(&[0, 0, 0, 0], 4).err(),
+        gen_tls_messagehandshake(&unwritten, &mut out).err(),
+    ]
+}
+
+#[test]
+fn each_is_given() {
+    assert_eq!(refused(), Refusal::ALL.map(Some));
+}
+
+#[test]
+fn numbers_and_names() {
+    for (k, (refusal, name)) in Refusal::ALL.into_iter().zip(NAMES).enumerate() {
+        assert_eq!((usize::from(refusal.number()), refusal.name()), (k + 1, name));
+        assert_eq!(refusal.to_string(), format!("{name} ({})", k + 1));
+        let error: &dyn std::error::Error = &refusal;
+        assert!(error.source().is_none());
+    }
+}
+
+#[test]
+fn no_room_at_every_length_short_of_the_text() {
+    let mut out = [0xa5; 100];
+    let text = gen_tls_clienthello(&hello(), &mut out).expect("room");
+    assert_eq!(text, 4 + 2 + 32 + 9 + 6 + 2 + 6);
+    assert!(out[text..].iter().all(|b| *b == 0xa5));
+    for room in 0..text {
+        let mut out = [0xa5; 100];
+        assert_eq!(gen_tls_clienthello(&hello(), &mut out[..room]), Err(Refusal::NoRoom), "{room} bytes");
+        assert_eq!(out, [0xa5; 100], "{room} bytes");
+    }
+    assert_eq!(gen_tls_clienthello(&hello(), &mut out[..text]), Ok(text));
+}
+
+#[test]
+fn parts_that_are_too_long() {
+    let long = vec![0; 1 << 24];
+    let (byte, word) = (&long[..256], &long[..1 << 16]);
+    let ecdh = TlsClientKeyExchangeContents::Ecdh(ECPoint { point: byte });
+    let hdr = TlsRecordHeader { record_type: TlsRecordType::Handshake, version: TlsVersion::Tls12, len: 0 };
+    let mut out = vec![0xa5; (1 << 24) + 8];
+    let bad = Err(Refusal::BadLength);
+    for hello in [
+        TlsClientHelloContents { random: &long[..33], ..hello() },
+        TlsClientHelloContents { session_id: Some(&long[..33]), ..hello() },
+        TlsClientHelloContents { ciphers: List::new(&long[..3]), ..hello() },
+        TlsClientHelloContents { ciphers: List::new(word), ..hello() },
+        TlsClientHelloContents { comp: List::new(byte), ..hello() },
+        TlsClientHelloContents { ext: Some(word), ..hello() },
+    ] {
+        assert_eq!(gen_tls_clienthello(&hello, &mut out), bad, "{:?}", hello.random.len());
+    }
+    assert_eq!(gen_tls_clientkeyexchange(&ecdh, &mut out), bad);
+    assert_eq!(gen_tls_clientkeyexchange(&TlsClientKeyExchangeContents::Dh(word), &mut out), bad);
+    assert_eq!(gen_tls_clientkeyexchange(&TlsClientKeyExchangeContents::Unknown(&long), &mut out), bad);
+    assert_eq!(gen_tls_finished(&long, &mut out), bad);
+    assert_eq!(gen_tls_plaintext(&hdr, &long[..16_641], &mut out), Err(Refusal::TooLarge));
+    assert!(out.iter().all(|b| *b == 0xa5), "a refused writing changed the output");
+}

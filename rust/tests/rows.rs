@@ -1,0 +1,125 @@
+//! The scope paper's table "Readings to keep on the bench", row by row.
+
+mod support;
+
+use norrabist::TlsMessageHandshake::{Certificate, HelloRequest};
+use norrabist::*;
+use support::text::hex;
+
+fn bytes(text: &str) -> Vec<u8> {
+    hex(text).expect("hex")
+}
+
+/// `0303 Z` and what follows; Z is 32 zero bytes.
+fn hello(rest: &str) -> Vec<u8> {
+    [bytes("0303"), vec![0; 32], bytes(rest)].concat()
+}
+
+/// H, `0303 Z 00 0000 00`, and what follows.
+fn h(rest: &str) -> Vec<u8> {
+    [hello("00 0000 00"), bytes(rest)].concat()
+}
+
+fn client_refusal(body: &[u8]) -> Option<Refusal> {
+    parse_tls_handshake_client_hello(body).err()
+}
+
+/// H is read with no id and all lists empty; extensions and the tail's place are given.
+fn reads_h(rest: &str, ext: Option<&[u8]>, tail: usize) {
+    let body = h(rest);
+    let (left, hello) = parse_tls_handshake_client_hello(&body).expect("a hello");
+    assert_eq!((hello.version, hello.random), (TlsVersion::Tls12, &[0; 32][..]));
+    assert_eq!((hello.session_id, hello.ext), (None, ext));
+    assert!(hello.ciphers.is_empty() && hello.comp.is_empty());
+    assert_eq!((hello.tail, left), (&body[tail..], &body[tail..]));
+}
+
+#[test]
+fn row_1_an_empty_client_hello() {
+    assert_eq!(client_refusal(&[]), Some(Refusal::Incomplete));
+}
+
+#[test]
+fn rows_2_to_5_extensions_and_tail() {
+    assert_eq!(h("").len(), 38);
+    reads_h("", None, 38);
+    reads_h("00", None, 38);
+    reads_h("0000", Some(&[]), 40);
+    reads_h("0001", None, 38);
+}
+
+#[test]
+fn rows_6_and_7_session_ids() {
+    assert_eq!(client_refusal(&hello("21")), Some(Refusal::Verify));
+    let short = [hello("20"), vec![0; 31]].concat();
+    assert_eq!(client_refusal(&short), Some(Refusal::Incomplete));
+}
+
+#[test]
+fn rows_8_and_9_list_lengths() {
+    assert_eq!(client_refusal(&hello("00 0001 00")), Some(Refusal::LengthValue));
+    assert_eq!(client_refusal(&hello("00 0002 00")), Some(Refusal::LengthValue));
+    assert_eq!(client_refusal(&hello("00 0000 01")), Some(Refusal::LengthValue));
+}
+
+#[test]
+fn rows_10_and_11_messages() {
+    let refusal = |message: &str| parse_tls_message_handshake(&bytes(message)).err();
+    assert_eq!(refusal("03 000000"), Some(Refusal::Switch));
+    assert_eq!(refusal("03 000001"), Some(Refusal::Incomplete));
+    assert_eq!(refusal("01 000000"), Some(Refusal::Incomplete));
+    let record = bytes("16 0301 0004 01000000");
+    assert_eq!(parse_tls_plaintext(&record).err(), Some(Refusal::Complete));
+}
+
+#[test]
+fn rows_12_and_13_records() {
+    let refusal = |record: &str| parse_tls_plaintext(&bytes(record)).err();
+    assert_eq!(refusal("16 0301 4101"), Some(Refusal::TooLarge));
+    assert_eq!(refusal("16 0301 4100"), Some(Refusal::Incomplete));
+    let record = bytes("16 0303 0005 00000000 01");
+    let (rest, record) = parse_tls_plaintext(&record).expect("a record");
+    assert_eq!((record.count(), record.dropped(), rest), (1, 1, &[][..]));
+    assert!(record.msg.iter().eq([HelloRequest]));
+}
+
+#[test]
+fn row_14_server_hello_versions() {
+    assert_eq!(parse_tls_handshake_server_hello(&bytes("0304")).err(), Some(Refusal::Tag));
+    assert_eq!(parse_tls_handshake_server_hello(&bytes("03")).err(), Some(Refusal::Incomplete));
+}
+
+#[test]
+fn row_15_h_written_back() {
+    let body = h("");
+    let (_, hello) = parse_tls_handshake_client_hello(&body).expect("a hello");
+    let mut out = [0xff; 50];
+    assert_eq!(gen_tls_clienthello(&hello, &mut out), Ok(44));
+    let text = [bytes("01 000028"), h("0000")].concat();
+    assert_eq!(out, [&text[..], &[0xff; 6]].concat()[..]);
+}
+
+#[test]
+fn row_16_a_certificate_list() {
+    let body = bytes("000005 000001 aa ff");
+    let (rest, message) = parse_tls_handshake_msg_certificate(&body).expect("a list");
+    let Certificate(contents) = message else { panic!("{message:?}") };
+    assert!(contents.cert_chain.iter().eq([RawCertificate { data: &[0xaa] }]));
+    assert_eq!((contents.cert_chain.len(), rest), (1, &[][..]));
+}
+
+#[test]
+fn rows_17_and_18_certificate_requests() {
+    let empty: &[u8] = &[];
+    let request = |body: &str, pairs: Option<usize>, names: &[&[u8]]| {
+        let body = bytes(body);
+        let (rest, contents) = parse_tls_handshake_certificaterequest(&body).expect("a request");
+        assert!(contents.cert_types.is_empty() && rest.is_empty());
+        assert_eq!(contents.sig_hash_algs.map(|pairs| pairs.len()), pairs);
+        assert_eq!(contents.unparsed_ca.iter().collect::<Vec<_>>(), names);
+    };
+    request("00 0002 0000", None, &[empty]);
+    request("00 0000 0000", Some(0), &[]);
+    request("00 0000", None, &[]);
+    assert_eq!(parse_tls_handshake_certificaterequest(&bytes("00 00")).err(), Some(Refusal::Complete));
+}
