@@ -5,7 +5,6 @@ use mathlib.Core.List.{List, [], _∷_, _++_}
 use Rattle.refusal.specs.Answers.{Answer, accepted, refused, then, numberIn}
 use Rattle.wire.specs.Puts.{room}
 use Rattle.list.specs.Items.{orNoSuch}
-use Rattle.message.specs.declared.handshake.TlsMessageHandshake.{TlsMessageHandshake}
 use Rattle.envelope.specs.Opening.{Met, metAt}
 use Rattle.record.specs.declared.TlsRecordHeader.{TlsRecordHeader}
 use Rattle.record.specs.declared.TlsRawRecord.{TlsRawRecord}

@@ -1,13 +1,12 @@
 // Messages: at the front of bytes, the next of a record's content, and a body of a given type.
 ghost use mathlib.Core.List.{_∷_};
 ghost use mathlib.Core.Path.{_≡_};
-ghost use Rattle.envelope.specs.Opening.{Met, metAt, opened};
+ghost use Rattle.envelope.specs.Opening.{metAt, opened};
 ghost use Rattle.norrabist_c.specs.Told.{answered, metNumbers, nextNumbers};
-ghost use Rattle.refusal.specs.Answers.{Answer, numberIn};
+ghost use Rattle.refusal.specs.Answers.{Answer};
 ghost use Rattle.tell.specs.Messages.{messageNumbers, told};
-ghost use Rattle.wire.specs.Puts.{room, written};
+ghost use Rattle.wire.specs.Puts.{written};
 use envelope::HeadAnswer;
-use envelope::TlsMessageHead;
 use message::handshake::MessageAnswer;
 use message::handshake::TlsMessageHandshake;
 use walk::TlsRecordWalk;
