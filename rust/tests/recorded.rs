@@ -6,13 +6,24 @@ use norrabist::{parse_tls_plaintext, record_walk_next, Refusal};
 use std::io::{self, Write};
 use support::{answer, functions, text, writing};
 
-/// The recorded list.
+/// The recorded list, and the smallest inputs at which the original and RFC 5246 part.
 const LIST: &str = concat!(env!("CARGO_MANIFEST_DIR"), "/../compare/recorded.txt");
-const AT_LEAST: usize = 9_200;
+const DIFFERENCES: &str = concat!(env!("CARGO_MANIFEST_DIR"), "/../compare/differences.txt");
 
 #[test]
 fn answers_as_recorded() {
-    let list = std::fs::read_to_string(LIST).unwrap_or_else(|e| panic!("{LIST}: {e}"));
+    let counts = replay("recorded list", LIST, 9_200);
+    assert!(counts.iter().all(|count| *count > 0), "a function without a case");
+}
+
+#[test]
+fn differences_are_as_listed() {
+    replay("differences", DIFFERENCES, 24);
+}
+
+/// How many cases there are of each function; none of them differs.
+fn replay(name: &str, path: &str, at_least: usize) -> Vec<usize> {
+    let list = std::fs::read_to_string(path).unwrap_or_else(|e| panic!("{path}: {e}"));
     let mut counts = vec![0; functions().len()];
     let mut faults = Vec::new();
     for (k, text) in list.lines().enumerate().filter(|(_, text)| !text.starts_with('#')) {
@@ -23,10 +34,10 @@ fn answers_as_recorded() {
     }
     let cases: usize = counts.iter().sum();
     // not by `println!`, which is seen where a test fails alone
-    writeln!(io::stdout(), "recorded list: {cases} cases as recorded, {} not", faults.len()).expect("output");
+    writeln!(io::stdout(), "{name}: {cases} cases as recorded, {} not", faults.len()).expect("output");
     assert!(faults.is_empty(), "{} differ:\n{}", faults.len(), faults[..faults.len().min(20)].join("\n"));
-    assert!(cases >= AT_LEAST, "{cases} cases, and not {AT_LEAST}");
-    assert!(counts.iter().all(|count| *count > 0), "a function without a case");
+    assert!(cases >= at_least, "{cases} cases, and not {at_least}");
+    counts
 }
 
 /// The place of the function among all, or what differs.

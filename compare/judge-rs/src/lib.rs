@@ -3,6 +3,7 @@
 //! same cases.
 
 pub mod answer;
+pub mod apart;
 pub mod bytes;
 pub mod case;
 pub mod container;

@@ -1,6 +1,6 @@
 //! The commands of the judge.
 
-use judge::{answer::answer, case::Case, count, generate, text, truncations};
+use judge::{answer::answer, apart, case::Case, count, generate, text, truncations};
 use std::io::{self, BufRead, BufWriter, Write};
 use std::panic::{catch_unwind, AssertUnwindSafe};
 use std::process::exit;
@@ -9,7 +9,8 @@ const USAGE: &str = "judge generate SEED COUNT          prints COUNT cases of th
 judge generate-writes SEED COUNT   prints COUNT cases of the writers
 judge answer                       reads cases, prints them with the crate's answers
 judge count                        reads answered cases, prints a table of them
-judge truncations                  prints what the crate writes outside the domain";
+judge truncations                  prints what the crate writes outside the domain
+judge apart                        prints two answers of the crate that no case asks for";
 
 fn main() -> io::Result<()> {
     let words: Vec<String> = std::env::args().skip(1).collect();
@@ -22,6 +23,7 @@ fn main() -> io::Result<()> {
         ["answer"] => print_answers(),
         ["count"] => print_counts(),
         ["truncations"] => write!(io::stdout(), "{}", truncations::table()),
+        ["apart"] => write!(io::stdout(), "{}", apart::table()),
         _ => usage(),
     }
 }

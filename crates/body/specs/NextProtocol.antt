@@ -3,7 +3,7 @@ use mathlib.Core.List.{[], _∷_}
 use mathlib.Core.Option.{none}
 use Rattle.refusal.specs.Answers.{Answer, accepted, refused}
 use Rattle.wire.specs.declared.view.OptView.the-variants.{Absent}
-use Rattle.list.specs.Items.{item}
+use Rattle.field.specs.Fields.{sized}
 use Rattle.grammar.specs.Forms.{Form, asView}
 use Rattle.body.specs.declared.next_protocol.TlsNextProtocolContent.{TlsNextProtocolContent}
 use Rattle.body.specs.declared.next_protocol.NextProtocolAnswer.{NextProtocolAnswer}
@@ -11,7 +11,7 @@ use Rattle.body.specs.declared.next_protocol.NextProtocolAnswer.the-vari
 
 abbrev pub nextProtocol : Form TlsNextProtocolContent
 nextProtocol = record {
-  grammar = record { fields = item 1 ∷ item 1 ∷ []; block = none };
+  grammar = record { fields = sized 1 ∷ sized 1 ∷ []; block = none };
   how = (asView, (asView, tt));
   value = λ (protocol, (padding, _)) e t. record { «selected_protocol» = protocol; padding = padding; tail = t };
   handed = λ c. (c .«selected_protocol», (c .padding, tt));

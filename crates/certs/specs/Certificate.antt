@@ -3,7 +3,7 @@ use mathlib.Core.List.{[], _∷_}
 use mathlib.Core.Option.{none}
 use Rattle.refusal.specs.Answers.{Answer, accepted, refused}
 use Rattle.wire.specs.declared.view.OptView.the-variants.{Absent}
-use Rattle.list.specs.Items.{item}
+use Rattle.field.specs.Fields.{sized}
 use Rattle.grammar.specs.Forms.{Form, asView}
 use Rattle.certs.specs.declared.certificate.TlsCertificateContents.{TlsCertificateContents}
 use Rattle.certs.specs.declared.certificate.CertificateAnswer.{CertificateAnswer}
@@ -11,7 +11,7 @@ use Rattle.certs.specs.declared.certificate.CertificateAnswer.the-varian
 
 abbrev pub certificate : Form TlsCertificateContents
 certificate = record {
-  grammar = record { fields = item 3 ∷ []; block = none };
+  grammar = record { fields = sized 3 ∷ []; block = none };
   how = (asView, tt);
   value = λ (chain, _) e t. record { «cert_chain» = chain; tail = t };
   handed = λ c. (c .«cert_chain», tt);

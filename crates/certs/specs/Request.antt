@@ -9,7 +9,7 @@ use Rattle.refusal.specs.declared.Reason.the-variants.{Complete}
 use Rattle.wire.specs.declared.view.View.{View}
 use Rattle.wire.specs.declared.view.OptView.{OptView}
 use Rattle.wire.specs.declared.view.OptView.the-variants.{Absent, Present}
-use Rattle.list.specs.Items.{item}
+use Rattle.field.specs.Fields.{sized}
 use Rattle.grammar.specs.Forms.{Form, asView, reading}
 use Rattle.certs.specs.declared.request.TlsCertificateRequestContents.{TlsCertificateRequestContents}
 use Rattle.certs.specs.declared.request.CertificateRequestAnswer.{CertificateRequestAnswer}
@@ -22,7 +22,7 @@ pairsIn Absent = record { start = 0; len = 0 }
 
 abbrev pub long : Form TlsCertificateRequestContents
 long = record {
-  grammar = record { fields = item 1 ∷ item 2 ∷ item 2 ∷ []; block = none };
+  grammar = record { fields = sized 1 ∷ sized 2 ∷ sized 2 ∷ []; block = none };
   how = (asView, (asView, (asView, tt)));
   value = λ (types, (pairs, (names, _))) e t. record { «cert_types» = types; «sig_hash_algs» = Present pairs; «unparsed_ca» = names; tail = t };
   handed = λ c. (c .«cert_types», (pairsIn (c .«sig_hash_algs»), (c .«unparsed_ca», tt)));
@@ -32,7 +32,7 @@ long = record {
 
 abbrev pub short : Form TlsCertificateRequestContents
 short = record {
-  grammar = record { fields = item 1 ∷ item 2 ∷ []; block = none };
+  grammar = record { fields = sized 1 ∷ sized 2 ∷ []; block = none };
   how = (asView, (asView, tt));
   value = λ (types, (names, _)) e t. record { «cert_types» = types; «sig_hash_algs» = Absent; «unparsed_ca» = names; tail = t };
   handed = λ c. (c .«cert_types», (c .«unparsed_ca», tt));

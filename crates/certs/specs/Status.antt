@@ -3,8 +3,7 @@ use mathlib.Core.List.{[], _∷_}
 use mathlib.Core.Option.{none}
 use Rattle.refusal.specs.Answers.{Answer, accepted, refused}
 use Rattle.wire.specs.declared.view.OptView.the-variants.{Absent}
-use Rattle.field.specs.Fields.{fixed}
-use Rattle.list.specs.Items.{item}
+use Rattle.field.specs.Fields.{fixed, sized}
 use Rattle.grammar.specs.Forms.{Form, asNumber, asView}
 use Rattle.certs.specs.declared.status.TlsCertificateStatusContents.{TlsCertificateStatusContents}
 use Rattle.certs.specs.declared.status.CertificateStatusAnswer.{CertificateStatusAnswer}
@@ -12,7 +11,7 @@ use Rattle.certs.specs.declared.status.CertificateStatusAnswer.the-varia
 
 abbrev pub status : Form TlsCertificateStatusContents
 status = record {
-  grammar = record { fields = fixed 1 ∷ item 3 ∷ []; block = none };
+  grammar = record { fields = fixed 1 ∷ sized 3 ∷ []; block = none };
   how = (asNumber 1, (asView, tt));
   value = λ (k, (b, _)) e t. record { «status_type» = k; blob = b; tail = t };
   handed = λ c. (c .«status_type», (c .blob, tt));

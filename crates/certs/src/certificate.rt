@@ -3,7 +3,8 @@ ghost use mathlib.Core.Path.{_≡_};
 ghost use lib.ListN.{length};
 ghost use Rattle.certs.specs.Certificate.{certificate, certificateSays};
 ghost use Rattle.grammar.specs.Forms.{reading};
-ghost use Rattle.list.specs.Items.{item, itemFrom, items, place};
+ghost use Rattle.field.specs.Fields.{sized};
+ghost use Rattle.list.specs.Items.{itemFrom, items, place};
 ghost use Rattle.wire.specs.Parts.{partOf, partSays};
 use field::Kind;
 use refusal::Refusal;
@@ -40,21 +41,21 @@ pub fn parse_tls_certificate(i: &[u8]) -> CertificateAnswer
 // Each takes the body that the contents were read from; a certificate's place is counted from the front of the chain.
 impl TlsCertificateContents {
     pub fn cert_count(self, body: &[u8]) -> usize
-        ensures { λ r. ⌜ r ≡ length (items (item 3) (partOf (now (body .entry)) (self .«cert_chain»))) ⌝ }
+        ensures { λ r. ⌜ r ≡ length (items (sized 3) (partOf (now (body .entry)) (self .«cert_chain»))) ⌝ }
     {
         list::items::item_count(wire::view::part_of(body, self.cert_chain), Width::Three)
     }
 
     // The certificate at a place of the chain, found by walking.
     pub fn cert_at(self, body: &[u8], at: usize) -> PartAnswer
-        ensures { λ r. ⌜ partSays r ≡ place at (items (item 3) (partOf (now (body .entry)) (self .«cert_chain»))) ⌝ }
+        ensures { λ r. ⌜ partSays r ≡ place at (items (sized 3) (partOf (now (body .entry)) (self .«cert_chain»))) ⌝ }
     {
         list::items::item_at(wire::view::part_of(body, self.cert_chain), Width::Three, at)
     }
 
     // The certificate that begins at `from`, and where the next one does: a walk takes one call for each.
     pub fn cert_from(self, body: &[u8], from: usize) -> PartAnswer
-        ensures { λ r. ⌜ partSays r ≡ itemFrom (item 3) (partOf (now (body .entry)) (self .«cert_chain»)) from ⌝ }
+        ensures { λ r. ⌜ partSays r ≡ itemFrom (sized 3) (partOf (now (body .entry)) (self .«cert_chain»)) from ⌝ }
     {
         list::items::item_from(
             wire::view::part_of(body, self.cert_chain),

@@ -2,9 +2,9 @@
 ghost use mathlib.Core.Path.{_≡_};
 ghost use lib.ListN.{length};
 ghost use Rattle.certs.specs.Request.{certificateRequest, long, requestSays, short};
-ghost use Rattle.field.specs.Fields.{Field};
+ghost use Rattle.field.specs.Fields.{Field, sized};
 ghost use Rattle.grammar.specs.Forms.{reading};
-ghost use Rattle.list.specs.Items.{item, itemFrom, items, numberPlace, place};
+ghost use Rattle.list.specs.Items.{itemFrom, items, numberPlace, place};
 ghost use Rattle.wire.specs.Numbers.{numberSays};
 ghost use Rattle.wire.specs.Parts.{optPartOf, partOf, partSays};
 use field::Kind;
@@ -132,21 +132,21 @@ impl TlsCertificateRequestContents {
     }
 
     pub fn ca_count(self, body: &[u8]) -> usize
-        ensures { λ r. ⌜ r ≡ length (items (item 2) (partOf (now (body .entry)) (self .«unparsed_ca»))) ⌝ }
+        ensures { λ r. ⌜ r ≡ length (items (sized 2) (partOf (now (body .entry)) (self .«unparsed_ca»))) ⌝ }
     {
         list::items::item_count(wire::view::part_of(body, self.unparsed_ca), Width::Two)
     }
 
     // The name at a place of the list, found by walking; its place is counted from the front of the list.
     pub fn ca_at(self, body: &[u8], at: usize) -> PartAnswer
-        ensures { λ r. ⌜ partSays r ≡ place at (items (item 2) (partOf (now (body .entry)) (self .«unparsed_ca»))) ⌝ }
+        ensures { λ r. ⌜ partSays r ≡ place at (items (sized 2) (partOf (now (body .entry)) (self .«unparsed_ca»))) ⌝ }
     {
         list::items::item_at(wire::view::part_of(body, self.unparsed_ca), Width::Two, at)
     }
 
     // The name that begins at `from`, and where the next one does: a walk takes one call for each.
     pub fn ca_from(self, body: &[u8], from: usize) -> PartAnswer
-        ensures { λ r. ⌜ partSays r ≡ itemFrom (item 2) (partOf (now (body .entry)) (self .«unparsed_ca»)) from ⌝ }
+        ensures { λ r. ⌜ partSays r ≡ itemFrom (sized 2) (partOf (now (body .entry)) (self .«unparsed_ca»)) from ⌝ }
     {
         list::items::item_from(
             wire::view::part_of(body, self.unparsed_ca),

@@ -12,10 +12,9 @@ use Rattle.refusal.proofs.Then.{then-accepted, within-accepted}
 use Rattle.wire.specs.Numbers.{numberAt}
 use Rattle.wire.specs.Parts.{partOf}
 use Rattle.wire.proofs.Numbers.{number-is}
-use Rattle.field.specs.Fields.{ruleOf, step}
+use Rattle.field.specs.Fields.{ruleOf, step, sized}
 use Rattle.field.specs.declared.Kind.the-variants.{Plain}
 use Rattle.field.proofs.Rules.{counted-lies}
-use Rattle.list.specs.Items.{item}
 use Rattle.message.specs.declared.handshake.TlsMessageHandshake.{TlsMessageHandshake}
 use Rattle.envelope.specs.Heads.{headAt}
 use Rattle.envelope.specs.Opening.{Met, metAt, byType}
@@ -42,9 +41,9 @@ pub record Lies (s : List ℕ) (at : ℕ) (h : TlsMessageHead) : Type 0 where
 pub head-lies : (s : List ℕ) (at : ℕ) {h : TlsMessageHead} → headAt s at ≡ accepted h → Lies s at h
 unfolding headAt
 head-lies s at {h} e =
-    let t = then-accepted (numberAt 1 s at) (λ k. then (step (item 3) s (k .next)) (λ b. accepted (record { kind = k .value; body = b .view; next = b .next }))) e in
+    let t = then-accepted (numberAt 1 s at) (λ k. then (step (sized 3) s (k .next)) (λ b. accepted (record { kind = k .value; body = b .view; next = b .next }))) e in
     let n = number-is 1 s at (t .1) in
-    let u = then-accepted (step (item 3) s (t .0 .next)) (λ b. accepted (record { kind = t .0 .value; body = b .view; next = b .next })) (t .2) in
+    let u = then-accepted (step (sized 3) s (t .0 .next)) (λ b. accepted (record { kind = t .0 .value; body = b .view; next = b .next })) (t .2) in
     let i = counted-lies 3 (ruleOf Plain) s (t .0 .next) (u .1) in
     let d : record { kind = t .0 .value; body = u .0 .view; next = u .0 .next } ≡ h = cc (u .2) in
     let z : t .0 .next ≡ at + 1 = rw (n .is) in

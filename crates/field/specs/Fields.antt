@@ -34,6 +34,10 @@ pub data Field : Type 0 where
   fixed : ℕ → Field
   counted : ℕ → Rule → Field
 
+-- any bytes, behind a length of w bytes
+abbrev pub sized : ℕ → Field
+sized w = counted w (ruleOf Plain)
+
 -- the n bytes from a place on, n being the length announced
 unfoldable pub ruled : Rule → List ℕ → ℕ → ℕ → Answer Part
 ruled r s at n = pick (r .allows n) (partAt (r .past) s at n) (refused (refusal (r .broken) at 0))

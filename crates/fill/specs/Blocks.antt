@@ -4,8 +4,8 @@ use mathlib.Core.List.{List, [], _∷_, map, flatMap}
 use lib.ListN.{length, take, drop}
 use Rattle.wire.specs.Numbers.{be}
 use Rattle.wire.specs.declared.view.Part.{Part}
-use Rattle.field.specs.Fields.{Field, step}
-use Rattle.list.specs.Items.{item, items, itemsFrom}
+use Rattle.field.specs.Fields.{Field, step, sized}
+use Rattle.list.specs.Items.{items, itemsFrom}
 use Rattle.envelope.specs.Opening.{Met, metAt}
 
 -- as many items as there is room for, k numbers each
@@ -18,7 +18,7 @@ numberBlock room s from = take room (drop from (map (λ (p : Part). be 2 s (p .v
 
 -- the items that begin at a byte, two numbers each
 abbrev pub itemBlock : ℕ → ℕ → List ℕ → ℕ → List ℕ
-itemBlock room w s from = block 2 (λ (p : Part). p .view .start ∷ p .view .len ∷ []) room (itemsFrom (length s) (step (item w) s) (λ p. p .next) from)
+itemBlock room w s from = block 2 (λ (p : Part). p .view .start ∷ p .view .len ∷ []) room (itemsFrom (length s) (step (sized w) s) (λ p. p .next) from)
 
 -- the messages that begin at a byte, three numbers each
 abbrev pub messageBlock : ℕ → List ℕ → ℕ → List ℕ

@@ -6,20 +6,15 @@ use native.Mathlib.Omega.{arith}
 use lib.ListN.{length}
 use Rattle.refusal.specs.Answers.{accepted}
 use Rattle.wire.specs.Parts.{partOf, optPartOf}
-use Rattle.wire.specs.Numbers.{bytesOf, numberText}
+use Rattle.wire.specs.Numbers.{numberText}
 use Rattle.wire.specs.Puts.{put, written}
-use Rattle.wire.proofs.Numbers.{length-bytes}
-use Rattle.wire.proofs.Puts.{number-accepted}
-use Rattle.field.specs.Standing.{fieldBytes}
 use Rattle.field.specs.Texts.{fieldText}
-use Rattle.field.proofs.Steps.{length-counted}
-use Rattle.field.proofs.Texts.{text-obeys}
-use Rattle.grammar.specs.Hellos.{version, random, sessionId, ciphers, methods, extensions}
+use Rattle.grammar.specs.Hellos.{random, sessionId, ciphers, methods, extensions}
 use Rattle.client.specs.Client.{client}
 use Rattle.client.specs.declared.TlsClientHelloContents.{TlsClientHelloContents}
 use Rattle.text.specs.Hellos.{helloBytes}
 use Rattle.text.proofs.Hellos.{Obeyed}
-use Rattle.text.proofs.Fields.{begin, and, last, end}
+use Rattle.text.proofs.Fields.{begin, and, number, part, close}
 
 pub client-put : (d s : List ℕ) (m : TlsClientHelloContents) (o₁ o₂ o₃ o₄ o₅ o₆ : List ℕ) (n₁ n₂ n₃ : ℕ) → Obeyed client s m → length (helloBytes client s m) ≤ length d → m .version < 65536
     → o₁ ≡ written (numberText 2 (m .version)) 0 d
@@ -33,9 +28,9 @@ unfolding helloBytes
 client-put d s m o₁ o₂ o₃ o₄ o₅ o₆ n₁ n₂ n₃ h f v e₁ e₂ e₃ x₁ e₄ x₂ e₅ x₃ e₆ =
     let p = h .fields in
     let a = begin d (helloBytes client s m) f in
-    let a₁ = and version _ (bytesOf 2 (m .version)) _ _ a (number-accepted 2 (m .version) v) o₁ 2 e₁ (omega (arith, length-bytes 2 (m .version))) in
-    let a₂ = and random _ (partOf s (m .random)) _ _ a₁ {t = accepted (partOf s (m .random))} refl o₂ 34 e₂ (omega (arith, p .1 .0)) in
-    let a₃ = and sessionId _ (optPartOf s (m .«session_id»)) _ _ a₂ (text-obeys sessionId (optPartOf s (m .«session_id»)) (p .1 .1 .0)) o₃ n₁ e₃ (rw length-counted (omega arith)) in
-    let a₄ = and ciphers _ (partOf s (m .ciphers)) _ _ a₃ (text-obeys ciphers (partOf s (m .ciphers)) (p .1 .1 .1 .0)) o₄ n₂ e₄ (rw length-counted (omega arith)) in
-    let a₅ = and methods _ (partOf s (m .comp)) _ _ a₄ (text-obeys methods (partOf s (m .comp)) (p .1 .1 .1 .1 .0)) o₅ n₃ e₅ (rw length-counted (omega arith)) in
-    end (last (fieldBytes extensions (optPartOf s (m .ext))) a₅) (text-obeys extensions (optPartOf s (m .ext)) (h .last)) o₆ e₆
+    let a₁ = number 2 _ _ _ 2 (m .version) a v e₁ (omega arith) in
+    let a₂ = and 34 _ _ _ random (partOf s (m .random)) a₁ {t = accepted (partOf s (m .random))} refl e₂ (omega (arith, p .1 .0)) in
+    let a₃ = part n₁ _ _ _ _ _ (optPartOf s (m .«session_id»)) a₂ (p .1 .1 .0) e₃ (omega arith) in
+    let a₄ = part n₂ _ _ _ _ _ (partOf s (m .ciphers)) a₃ (p .1 .1 .1 .0) e₄ (omega arith) in
+    let a₅ = part n₃ _ _ _ _ _ (partOf s (m .comp)) a₄ (p .1 .1 .1 .1 .0) e₅ (omega arith) in
+    close extensions (optPartOf s (m .ext)) a₅ (h .last) e₆

@@ -22,7 +22,8 @@ use Rattle.field.proofs.Texts.{text-may}
 use Rattle.grammar.specs.Splits.{join}
 use Rattle.text.proofs.Fields.{begin, next, end}
 use Rattle.record.specs.declared.TlsRecordHeader.{TlsRecordHeader}
-use Rattle.genrecord.specs.Records.{fragment, recordText}
+use Rattle.record.specs.Records.{fragment}
+use Rattle.genrecord.specs.Records.{recordText}
 
 -- the fields joined, with no list behind the last
 abbrev whole : TlsRecordHeader → List ℕ → List ℕ

@@ -8,16 +8,10 @@ use Rattle.refusal.specs.Refusals.{refusal}
 use Rattle.refusal.specs.declared.Reason.the-variants.{TooLarge}
 use Rattle.wire.specs.Parts.{pick}
 use Rattle.wire.specs.Numbers.{bytesOf}
-use Rattle.field.specs.Fields.{Field, counted, ruleOf}
-use Rattle.field.specs.declared.Kind.the-variants.{Fragment}
 use Rattle.field.specs.Texts.{allowed}
 use Rattle.grammar.specs.Splits.{join}
-use Rattle.record.specs.Records.{raw}
+use Rattle.record.specs.Records.{fragment, raw}
 use Rattle.record.specs.declared.TlsRecordHeader.{TlsRecordHeader}
-
--- a record's length and content
-abbrev pub fragment : Field
-fragment = counted 2 (ruleOf Fragment)
 
 -- the header's own length is not looked at: the content's is written
 abbrev pub recordBytes : TlsRecordHeader → List ℕ → List ℕ

@@ -4,8 +4,8 @@ use mathlib.Core.List.{[], _∷_}
 use mathlib.Core.Bool.{Bool}
 use mathlib.Core.Option.{none, some}
 use Rattle.wire.specs.Parts.{pick}
-use Rattle.field.specs.Fields.{Field, fixed, counted, ruleOf}
-use Rattle.field.specs.declared.Kind.the-variants.{Plain, SessionId, Ciphers, Methods}
+use Rattle.field.specs.Fields.{Field, fixed, counted, sized, ruleOf}
+use Rattle.field.specs.declared.Kind.the-variants.{SessionId, Ciphers, Methods}
 use Rattle.grammar.specs.Grammars.{Grammar}
 
 abbrev pub version : Field
@@ -34,7 +34,7 @@ compression = fixed 1
 
 -- length 2 and that many bytes, if both are there
 abbrev pub extensions : Field
-extensions = counted 2 (ruleOf Plain)
+extensions = sized 2
 
 abbrev pub clientHello : Grammar
 clientHello = record { fields = version ∷ random ∷ sessionId ∷ ciphers ∷ methods ∷ []; block = some extensions }

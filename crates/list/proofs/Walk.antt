@@ -66,7 +66,7 @@ module _ {A : Type 0} {find : ℕ → Answer A} {past : A → ℕ} {n : ℕ} (mo
       go (refused r) e = rw e
 
   -- any number of turns will do that is not below the bytes left
-  fuel : (k m at : ℕ) → n - at ≤ k → n - at ≤ m → itemsFrom k find past at ≡ itemsFrom m find past at
+  pub fuel : (k m at : ℕ) → n - at ≤ k → n - at ≤ m → itemsFrom k find past at ≡ itemsFrom m find past at
   unfolding itemsFrom
   fuel zero m at h l = sym (none-past m at (omega arith))
   fuel (suc k) zero at h l = none-past (suc k) at (omega arith)

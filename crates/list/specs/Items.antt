@@ -9,8 +9,7 @@ use Rattle.refusal.specs.declared.Reason.the-variants.{NoSuch}
 use Rattle.wire.specs.Numbers.{be}
 use Rattle.wire.specs.declared.view.Part.{Part}
 use Rattle.wire.specs.declared.number.Number.{Number}
-use Rattle.field.specs.Fields.{Field, step, ruleOf}
-use Rattle.field.specs.declared.Kind.the-variants.{Plain}
+use Rattle.field.specs.Fields.{Field, step}
 
 abbrev pub goOn : {A : Type 0} → Answer A → (A → List A) → List A
 goOn (accepted x) k = x ∷ k x
@@ -30,10 +29,6 @@ place (suc n) (x ∷ xs) = place n xs
 -- where one is found, else NoSuch
 abbrev pub orNoSuch : {A : Type 0} → Answer A → Answer A
 orNoSuch a = orElse a (refused (refusal NoSuch 0 0))
-
--- bytes behind a length of w bytes
-abbrev pub item : ℕ → Field
-item w = Field.counted w (ruleOf Plain)
 
 -- the item that begins at a place, where one fits
 unfoldable pub itemFrom : Field → List ℕ → ℕ → Answer Part

@@ -3,7 +3,8 @@ ghost use mathlib.Core.Path.{_≡_};
 ghost use lib.ListN.{length};
 ghost use Rattle.wire.specs.Numbers.{bytesIn};
 ghost use Rattle.wire.specs.Parts.{partSays};
-ghost use Rattle.list.specs.Items.{item, items, itemFrom, place};
+ghost use Rattle.field.specs.Fields.{sized};
+ghost use Rattle.list.specs.Items.{items, itemFrom, place};
 use field::Kind;
 use refusal::Reason;
 use wire::number::Width;
@@ -11,7 +12,7 @@ use wire::view::PartAnswer;
 
 // The item that begins at `at`, with the place of the next one: a walk over the whole list takes one call an item.
 pub fn item_from(s: &[u8], at: usize, w: Width) -> PartAnswer
-    ensures { λ r. ⌜ partSays r ≡ itemFrom (item (bytesIn w)) (now (s .entry)) at ⌝ }
+    ensures { λ r. ⌜ partSays r ≡ itemFrom (sized (bytesIn w)) (now (s .entry)) at ⌝ }
 {
     match field::length_data(s, at, w, Kind::Plain) {
         PartAnswer::Refused(_) => PartAnswer::Refused(refusal::refuse(Reason::NoSuch, 0, 0)),
@@ -20,7 +21,7 @@ pub fn item_from(s: &[u8], at: usize, w: Width) -> PartAnswer
 }
 
 pub fn item_count(s: &[u8], w: Width) -> usize
-    ensures { λ r. ⌜ r ≡ length (items (item (bytesIn w)) (now (s .entry))) ⌝ }
+    ensures { λ r. ⌜ r ≡ length (items (sized (bytesIn w)) (now (s .entry))) ⌝ }
 {
     let mut at: usize = 0;
     let mut count: usize = 0;
@@ -39,7 +40,7 @@ pub fn item_count(s: &[u8], w: Width) -> usize
 
 // The item at a place, found by walking.
 pub fn item_at(s: &[u8], w: Width, at: usize) -> PartAnswer
-    ensures { λ r. ⌜ partSays r ≡ place at (items (item (bytesIn w)) (now (s .entry))) ⌝ }
+    ensures { λ r. ⌜ partSays r ≡ place at (items (sized (bytesIn w)) (now (s .entry))) ⌝ }
 {
     let mut from: usize = 0;
     let mut k: usize = 0;

@@ -3,21 +3,19 @@
 use Prim.Native.Nat.{ℕ, _+_, _<_, _≤_}
 use mathlib.Core.Path.{_≡_, refl, sym, ap, _∙_}
 use mathlib.Core.Bool.{Bool, true, false}
-use mathlib.Core.List.{List, _∷_, _++_, append-assoc}
+use mathlib.Core.List.{List, _∷_, _++_}
 use native.Mathlib.Omega.{arith}
 use native.Mathlib.Nat.{zero-add}
 use borrow.Author.Tests.{leb-true, leb-false}
-use lib.ListN.{length, take, drop, length-append}
+use lib.ListN.{length, length-append}
 use lib.Dec.{leb}
-use lib.Seq.{drop-at, length-take-le}
 use Rattle.refusal.specs.Answers.{Answer, accepted, refused, then, numberIn}
-use Rattle.refusal.specs.Refusals.{numberOf, refusal}
-use Rattle.refusal.specs.declared.Reason.the-variants.{NoRoom}
+use Rattle.refusal.specs.Refusals.{numberOf}
 use Rattle.refusal.specs.declared.Refusal.{Refusal}
 use Rattle.refusal.proofs.Then.{not-both, then-accepted}
 use Rattle.wire.specs.Puts.{put, room, written}
-use Rattle.wire.proofs.Parts.{part-in, part-out}
-use Rattle.wire.proofs.Puts.{text-refused, text-in, text-out, length-put}
+use Rattle.wire.proofs.Puts.{text-refused, length-put}
+use Rattle.text.proofs.Messages.{put-before}
 use Rattle.list.specs.Items.{orNoSuch}
 use Rattle.message.specs.declared.handshake.TlsMessageHandshake.{TlsMessageHandshake}
 use Rattle.envelope.specs.Heads.{headAt}
@@ -27,7 +25,7 @@ use Rattle.envelope.proofs.Heads.{met-head}
 use Rattle.walk.specs.Walks.{nextMessage, onTo, moved}
 use Rattle.walk.specs.declared.TlsRecordWalk.{TlsRecordWalk}
 use Rattle.tell.specs.Messages.{messageNumbers, partNumbers, told}
-use Rattle.tell.proofs.Telling.{Tells}
+use Rattle.array.proofs.Tells.{Tells, in-room, no-room}
 use Rattle.hear.specs.Heard.{heard}
 use Rattle.genmessage.specs.Messages.{handshakeText}
 use Rattle.norrabist_c.specs.Told.{answered, countOr, metNumbers, nextNumbers, handedText}
@@ -50,25 +48,6 @@ module _ {A : Type 0} (f : A → List ℕ) (d : List ℕ) {a : Answer A} {n : �
   -- the numbers of a value are put in, or there is no room for them
   pub all-told : {v : A} {d′ : List ℕ} → a ≡ accepted v → Exported (accepted (f v)) d n d′ → Exported (told f a) d n d′
   all-told e x = as-told d (rw e) x
-
--- numbers told from a place on: all of them, or none and NoRoom
-in-room : (ns : List ℕ) (at : ℕ) (d : List ℕ) → at + length ns ≤ length d → Tells ns at d 0 (put d at ns)
-in-room ns at d h =
-    let o = text-in ns at d refl (part-in NoRoom d at (length ns) h) in
-    (sym (ap numberIn (o .says)), sym (o .leaves))
-
-no-room : (ns : List ℕ) (at : ℕ) (d : List ℕ) → length d < at + length ns → Tells ns at d 9 d
-unfolding refusal
-no-room ns at d h =
-    let o = text-out ns at d refl (part-out NoRoom d at (length ns) h) in
-    (sym (ap numberIn (o .says)), sym (o .leaves))
-
--- numbers put in right before others
-put-before : (xs ns d : List ℕ) → length xs + length ns ≤ length d → put (put d (length xs) ns) 0 xs ≡ put d 0 (xs ++ ns)
-unfolding put
-put-before xs ns d h =
-    rw (zero-add (length xs), drop-at (take (length xs) d) (ns ++ drop (length xs + length ns) d) (length xs) (length-take-le (length xs) d (omega arith)), zero-add (length (xs ++ ns)), length-append)
-    (sym (append-assoc xs ns _))
 
 module _ (xs ns d : List ℕ) {m : ℕ} {e : List ℕ} (t : Tells ns (length xs) d m e) where
   -- no room for the others is none for all
@@ -94,7 +73,7 @@ module _ (xs ns d : List ℕ) {m : ℕ} {e : List ℕ} (t : Tells ns (length xs)
           let l : length e ≡ length d = rw i (length-put d (length xs) ns h) in
           let f = in-room xs 0 e (omega arith) in
           let w = in-room (xs ++ ns) 0 d (rw length-append (omega arith)) in
-          (u .0 ∙ sym (f .0) ∙ w .0, u .1 ∙ sym (f .1) ∙ rw i (put-before xs ns d h) ∙ w .1)
+          (u .0 ∙ sym (f .0) ∙ w .0, u .1 ∙ sym (f .1) ∙ rw i (rw (zero-add (length xs)) at (put-before d 0 xs ns (omega arith))) ∙ w .1)
       go false q =
           let o = no-room ns (length xs) d (leb-false _ _ q) in
           absurd (omega (arith, z, t .0 ∙ sym (o .0)))

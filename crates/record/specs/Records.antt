@@ -6,7 +6,7 @@ use mathlib.Core.Option.{none}
 use Rattle.refusal.specs.Answers.{Answer, accepted, refused, then}
 use Rattle.wire.specs.Numbers.{numberAt}
 use Rattle.wire.specs.declared.view.OptView.the-variants.{Absent}
-use Rattle.field.specs.Fields.{fixed, counted, ruleOf}
+use Rattle.field.specs.Fields.{Field, fixed, counted, ruleOf}
 use Rattle.field.specs.declared.Kind.the-variants.{Fragment}
 use Rattle.grammar.specs.Forms.{Form, asNumber, asView, reading}
 use Rattle.record.specs.declared.TlsRecordHeader.{TlsRecordHeader}
@@ -27,10 +27,14 @@ header s =
     then (numberAt 2 s (v .next)) (λ n.
     accepted (record { «record_type» = t .value; version = v .value; len = n .value }))))
 
+-- length 2 and content
+abbrev pub fragment : Field
+fragment = counted 2 (ruleOf Fragment)
+
 -- "Raw and encrypted readers take any type": type 1, version 2, length 2 and content
 abbrev pub raw : Form TlsRawRecord
 raw = record {
-  grammar = record { fields = fixed 1 ∷ fixed 2 ∷ counted 2 (ruleOf Fragment) ∷ []; block = none };
+  grammar = record { fields = fixed 1 ∷ fixed 2 ∷ fragment ∷ []; block = none };
   how = (asNumber 1, (asNumber 2, (asView, tt)));
   value = λ (t, (v, (d, _))) e n. record { hdr = record { «record_type» = t; version = v; len = d .len }; «data» = d; next = n };
   handed = λ r. (r .hdr .«record_type», (r .hdr .version, (r .«data», tt)));

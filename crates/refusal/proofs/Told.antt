@@ -5,7 +5,7 @@ use mathlib.Core.Path.{_≡_, refl, sym, ap, _∙_}
 use mathlib.Core.List.{List, [], _∷_}
 use native.Mathlib.Omega.{arith}
 use lib.ListN.{getD}
-use Rattle.refusal.specs.Refusals.{numberOf}
+use Rattle.refusal.specs.Refusals.{numberOf, refusal}
 use Rattle.refusal.specs.Answers.{Answer, accepted, refused, TellSame}
 use Rattle.refusal.specs.declared.Reason.{Reason}
 use Rattle.refusal.specs.declared.Reason.the-variants.{Incomplete, Complete, Verify, LengthValue, Tag, Switch, TooLarge, BadLength, NoRoom, Elsewhere, NoSuch, NotYetImplemented}
@@ -33,6 +33,11 @@ row-of NotYetImplemented = refl
 -- a number of the table is that of one reason
 one-reason : (r r′ : Reason) → numberOf r ≡ numberOf r′ → r ≡ r′
 one-reason r r′ e = sym (row-of r) ∙ ap (λ (n : ℕ). getD rows n Incomplete) e ∙ row-of r′
+
+-- and what its reason is, which a refusal tells whatever else it is made from
+pub its-reason : (why : Reason) (at lack : ℕ) → refusal why at lack .reason ≡ why
+unfolding refusal
+its-reason why at lack = refl
 
 one-refusal : (r r′ : Refusal) → r .reason ≡ r′ .reason → r ≡ r′
 one-refusal r r′ e = ap (λ (why : Reason). record { reason = why }) e

@@ -69,6 +69,16 @@ fn certificate(row: &[u8], text: &[u8], s: &[u8]) {
     }
 }
 
+// The first two of a chain, by the reader that holds it.
+fn held(text: &[u8], chain: &[u8]) {
+    say::row(b"-", b"chain", text);
+    say::text(b"the sender's");
+    say_part(chain, norrabist::sender_certificate(chain));
+    say::text(b", the issuer's");
+    say_part(chain, norrabist::issuer_certificate(chain));
+    say::text(b"\n");
+}
+
 fn say_names(s: &[u8], c: TlsCertificateRequestContents) {
     let list = norrabist::part_of(s, c.unparsed_ca);
     let count = c.ca_count(s);
@@ -122,5 +132,10 @@ pub fn lists() {
         b"-",
         b"01 01 0003 0401 ff 0000 aa",
         &[0x01, 0x01, 0x00, 0x03, 0x04, 0x01, 0xff, 0x00, 0x00, 0xaa],
+    );
+    held(b"000001 aa ff", &[0x00, 0x00, 0x01, 0xaa, 0xff]);
+    held(
+        b"000001 aa 000000",
+        &[0x00, 0x00, 0x01, 0xaa, 0x00, 0x00, 0x00],
     );
 }

@@ -1,15 +1,20 @@
--- Fields written one behind the other: a writer's proof begins with the whole text, takes one field off it for each call, and ends with none.
--- Assumes nothing.
-use Prim.Native.Nat.{ℕ, _+_, _≤_}
+-- Fields written one behind the other: a writer's proof begins with the whole text, takes one field off it for each call, and ends with
+-- none. Assumes nothing.
+use Prim.Native.Nat.{ℕ, _+_, _^_, _<_, _≤_}
 use mathlib.Core.Path.{_≡_, refl, _∙_}
 use mathlib.Core.List.{List, [], _∷_, _++_, append-assoc}
 use native.Mathlib.Omega.{arith}
 use lib.ListN.{length, length-append}
 use Rattle.refusal.specs.Answers.{Answer, accepted}
 use Rattle.wire.specs.Puts.{put, written}
-use Rattle.wire.proofs.Puts.{put-put, length-put, written-in}
-use Rattle.field.specs.Fields.{Field}
-use Rattle.field.specs.Standing.{fieldBytes}
+use Rattle.wire.specs.Numbers.{bytesOf, numberText}
+use Rattle.wire.proofs.Numbers.{length-bytes}
+use Rattle.wire.proofs.Puts.{put-put, length-put, written-in, number-accepted}
+use Rattle.field.specs.Fields.{Field, fixed, counted, Rule}
+use Rattle.field.specs.Standing.{fieldBytes, Obeys}
+use Rattle.field.specs.Texts.{fieldText}
+use Rattle.field.proofs.Steps.{length-counted}
+use Rattle.field.proofs.Texts.{text-obeys}
 use Rattle.grammar.specs.Grammars.{Each}
 use Rattle.grammar.specs.Splits.{join}
 
@@ -31,17 +36,27 @@ next {d} {whole} {out} {at} x rest l {t} e out′ at′ q n =
     let m : length out′ ≡ length out = rw p (length-put out at x (omega arith)) in
     record { is = rw (p, n, put-put out at x rest h) (l .is); fits = omega (arith, m, n) }
 
--- one field more
-pub and : {d whole out : List ℕ} {at : ℕ} (f : Field) (fs : List Field) (p : List ℕ) (ps : Each (List ℕ) fs) (z : List ℕ) → Left d whole out at (join (f ∷ fs) (p, ps) ++ z)
-    → {t : Answer (List ℕ)} → t ≡ accepted (fieldBytes f p) → (out′ : List ℕ) (at′ : ℕ) → out′ ≡ written t at out → at′ ≡ at + length (fieldBytes f p) → Left d whole out′ at′ (join fs ps ++ z)
-unfolding join
-and f fs p ps z l e out′ at′ q n = next (fieldBytes f p) (join fs ps ++ z) (rw (append-assoc (fieldBytes f p) (join fs ps) z) at l) e out′ at′ q n
-
--- no field more
-pub last : {d whole out : List ℕ} {at : ℕ} (z : List ℕ) → Left d whole out at (join [] tt ++ z) → Left d whole out at z
-unfolding join
-last z l = l
-
 -- the last text
 pub end : {d whole out : List ℕ} {at : ℕ} {x : List ℕ} → Left d whole out at x → {t : Answer (List ℕ)} → t ≡ accepted x → (out′ : List ℕ) → out′ ≡ written t at out → out′ ≡ put d 0 whole
 end {out = out} {at = at} {x = x} l e out′ q = q ∙ written-in x at out e (l .fits) ∙ l .is
+
+module _ {d whole out : List ℕ} {at : ℕ} {out′ : List ℕ} where
+  -- one field more, a number more, a part behind its length more
+  module _ (at′ : ℕ) (fs : List Field) (ps : Each (List ℕ) fs) (z : List ℕ) where
+    pub and : (f : Field) (p : List ℕ) → Left d whole out at (join (f ∷ fs) (p, ps) ++ z) → {t : Answer (List ℕ)} → t ≡ accepted (fieldBytes f p)
+        → out′ ≡ written t at out → at′ ≡ at + length (fieldBytes f p) → Left d whole out′ at′ (join fs ps ++ z)
+    unfolding join
+    and f p l e q n = next (fieldBytes f p) (join fs ps ++ z) (rw (append-assoc (fieldBytes f p) (join fs ps) z) at l) e out′ at′ q n
+
+    pub number : (w n : ℕ) → Left d whole out at (join (fixed w ∷ fs) (bytesOf w n, ps) ++ z) → n < 256 ^ w
+        → out′ ≡ written (numberText w n) at out → at′ ≡ at + w → Left d whole out′ at′ (join fs ps ++ z)
+    number w n l h q e = and (fixed w) (bytesOf w n) l (number-accepted w n h) q (rw (length-bytes w n) e)
+
+    pub part : (w : ℕ) (r : Rule) (p : List ℕ) → Left d whole out at (join (counted w r ∷ fs) (p, ps) ++ z) → Obeys (counted w r) p
+        → out′ ≡ written (fieldText (counted w r) p) at out → at′ ≡ at + (w + length p) → Left d whole out′ at′ (join fs ps ++ z)
+    part w r p l o q e = and (counted w r) p l (text-obeys (counted w r) p o) q (rw (length-counted w r p) e)
+
+  -- the field behind the last
+  pub close : (f : Field) (p : List ℕ) → Left d whole out at (join [] tt ++ fieldBytes f p) → Obeys f p → out′ ≡ written (fieldText f p) at out → out′ ≡ put d 0 whole
+  unfolding join
+  close f p l o q = end l (text-obeys f p o) out′ q

@@ -1,17 +1,15 @@
 -- A hello that may be written: each part is one of its field, and the text is the fields joined. Assumes nothing.
-use Prim.Native.Nat.{ℕ, _+_, _-_, _<_}
-use mathlib.Core.Path.{_≡_}
+use Prim.Native.Nat.{ℕ, _<_}
+use mathlib.Core.Path.{_≡_, ap, sym, _∙_}
 use mathlib.Core.List.{List, [], _∷_}
-use mathlib.Core.Bool.{true, false}
-use borrow.Rule.Slice.PartMut.{putMid, midOf}
+use mathlib.Core.Bool.{Bool, true, false, not}
+use borrow.Author.Tests.{not-true}
 use lib.ListN.{length}
 use Rattle.refusal.specs.Answers.{accepted, refused}
 use Rattle.refusal.specs.Refusals.{refusal}
-use Rattle.refusal.specs.declared.Reason.the-variants.{BadLength, NoRoom}
+use Rattle.refusal.specs.declared.Reason.the-variants.{BadLength}
 use Rattle.refusal.specs.declared.Refusal.{Refusal}
-use Rattle.wire.specs.Parts.{partAt, optPartOf}
-use Rattle.wire.specs.Puts.{put, written}
-use Rattle.wire.specs.declared.view.Part.{Part}
+use Rattle.wire.specs.Parts.{optPartOf}
 use Rattle.wire.proofs.Puts.{Came}
 use Rattle.field.specs.Fields.{Field}
 use Rattle.field.specs.Standing.{Obeys}
@@ -22,8 +20,8 @@ use Rattle.grammar.specs.Splits.{AllObey}
 use Rattle.grammar.specs.Hellos.{extensions}
 use Rattle.grammar.specs.Forms.{Form, How, asPart, Out, Outs, named, allNamed}
 use Rattle.text.specs.Hellos.{lies, mayStand, allMay, mayWrite, helloBytes, helloText}
-use Rattle.text.specs.Messages.{headText, messageText}
-use Rattle.text.proofs.Messages.{message-refused, message-out, message-in}
+use Rattle.text.specs.Messages.{messageText}
+use Rattle.text.proofs.Messages.{Body, message-refused}
 
 stands : (f : Field) (m : How) (s : List ℕ) (o : Out m) → mayStand f m s o ≡ true → Obeys f (named m s o)
 stands f m s o e = obeys f (named m s o) (both-true (lies m s o) (allowed f (length (named m s o))) e .1)
@@ -52,15 +50,13 @@ hello-not : {C : Type 0} (k : Form C) (s : List ℕ) (c : C) → mayWrite k s c 
 unfolding helloText
 hello-not k s c e = rw e
 
--- the message of a hello, written: a part may not be, or there is no room, or the fields are put in from byte 4 on and then the head
-module _ {C : Type 0} (k : Form C) (s : List ℕ) (c : C) (kind : ℕ) (d : List ℕ) where
-  pub hello-refused : mayWrite k s c ≡ false → Came (messageText kind (helloText k s c)) 0 d (refused (refusal BadLength 0 0)) d
-  hello-refused e = message-refused kind d (hello-not k s c e)
+-- the message of a hello that may not be written, and the body of n bytes of one that may
+abbrev pub HelloBody : {C : Type 0} → Form C → List ℕ → C → ℕ → Type 0
+HelloBody k s c n = Body (helloText k s c) (helloBytes k s c) n
 
-  module _ (e : mayWrite k s c ≡ true) (n : ℕ) (l : n ≡ length (helloBytes k s c)) (h : n < 16777216) where
-    pub hello-out : {r : Refusal} → partAt NoRoom d 0 (4 + n) ≡ refused r → Came (messageText kind (helloText k s c)) 0 d (refused r) d
-    hello-out {r} q = message-out kind d (helloBytes k s c) (hello-may k s c e) (rw l at h) {r = r} (rw l at q)
+module _ {C : Type 0} (k : Form C) (s : List ℕ) (c : C) where
+  pub hello-refused : (kind : ℕ) (d : List ℕ) {t : Bool} {r : Refusal} → t ≡ mayWrite k s c → not t ≡ true → r ≡ refusal BadLength 0 0 → Came (messageText kind (helloText k s c)) 0 d (refused r) d
+  hello-refused kind d {t} m n q = message-refused kind d (hello-not k s c (sym m ∙ not-true t n) ∙ ap refused (sym q))
 
-    pub hello-in : {p : Part} (ys out : List ℕ) → partAt NoRoom d 0 (4 + n) ≡ accepted p → ys ≡ put (midOf 4 (length d - 4) d) 0 (helloBytes k s c)
-        → out ≡ written (headText kind n) 0 (putMid 4 (length d - 4) d ys) → Came (messageText kind (helloText k s c)) 0 d (accepted (p .next)) out
-    hello-in {p} ys out q y o = message-in kind d (helloBytes k s c) (hello-may k s c e) (rw l at h) {p = p} ys out (rw l at q) y (rw l at o)
+  pub hello-body : (n : ℕ) → mayWrite k s c ≡ true → n ≡ length (helloBytes k s c) → n < 16777216 → HelloBody k s c n
+  hello-body n e l h = record { is = hello-may k s c e; long = l; small = h }

@@ -2,3 +2,4 @@ pub mod Parts
 pub mod Hellos
 pub mod Fields
 pub mod Messages
+pub mod Mays

@@ -7,7 +7,7 @@ use native.Mathlib.Omega.{arith}
 use native.Mathlib.Nat.{zero-add}
 use borrow.Author.Tests.{lt-ltb, ltb-true}
 use borrow.Rule.Slice.PartMut.{putMid, midOf}
-use lib.ListN.{length, take, drop, length-append, length-drop, drop-of-length-le}
+use lib.ListN.{length, take, drop, length-append, length-take, length-drop, drop-of-length-le}
 use lib.Dec.{ltb}
 use lib.Seq.{take-append-le, take-take, take-all, length-take-le, drop-at, drop-drop}
 use Rattle.refusal.specs.Answers.{Answer, accepted, refused}
@@ -16,14 +16,19 @@ use Rattle.refusal.specs.declared.Reason.the-variants.{NoRoom, BadLength}
 use Rattle.refusal.specs.declared.Refusal.{Refusal}
 use Rattle.wire.specs.Parts.{partAt}
 use Rattle.wire.specs.Numbers.{bytesOf, numberText}
-use Rattle.wire.specs.Puts.{put, written}
+use Rattle.wire.specs.Puts.{put, room, written}
 use Rattle.wire.specs.declared.view.Part.{Part}
 use Rattle.wire.proofs.Parts.{fits}
 use Rattle.wire.proofs.Numbers.{length-bytes}
 use Rattle.wire.proofs.Puts.{Came, text-refused, text-in, text-out, written-in, number-accepted, length-put}
 use Rattle.field.proofs.Texts.{text-may}
-use Rattle.text.specs.Messages.{sized, headText, messageText}
+use Rattle.field.specs.Fields.{sized}
+use Rattle.text.specs.Messages.{headText, messageText}
 use Rattle.text.proofs.Fields.{begin, next, end}
+
+-- what writing came to, as a writer ensures it
+pub ensured : {t : Answer (List ℕ)} {at : ℕ} {d : List ℕ} {a : Answer ℕ} {d′ : List ℕ} → Came t at d a d′ → (a ≡ room t at d) × (d′ ≡ written t at d)
+ensured c = (sym (c .says), sym (c .leaves))
 
 -- type and length
 abbrev pub headBytes : ℕ → ℕ → List ℕ
@@ -38,9 +43,9 @@ head-is kind n h = rw (number-accepted 3 n h)
 
 -- writing them: a length that three bytes cannot hold, no room, and one number behind the other
 module _ (kind n : ℕ) (d : List ℕ) where
-  pub head-not : ltb n (256 ^ 3) ≡ false → Came (headText kind n) 0 d (refused (refusal BadLength 0 0)) d
+  pub head-not : {r : Refusal} → ltb n (256 ^ 3) ≡ false → r ≡ refusal BadLength 0 0 → Came (headText kind n) 0 d (refused r) d
   unfolding headText numberText
-  head-not e = text-refused 0 d (rw e)
+  head-not e q = text-refused 0 d (rw (e, q))
 
   module _ (h : ltb n (256 ^ 3) ≡ true) where
     pub head-out : {r : Refusal} → partAt NoRoom d 0 4 ≡ refused r → Came (headText kind n) 0 d (refused r) d
@@ -62,11 +67,8 @@ message-is kind b e h =
     let f = text-may (sized 3) b (rw (lt-ltb (length b) 16777216 h)) in
     rw (e, f) (ap accepted (sym (append-assoc (bytesOf 1 kind) (bytesOf 3 (length b)) b)))
 
-length-message : (kind : ℕ) (b : List ℕ) → length (headBytes kind (length b) ++ b) ≡ 4 + length b
-length-message kind b = rw (length-append, length-head kind (length b))
-
 -- bytes put in right before others
-put-before : (d : List ℕ) (at : ℕ) (xs ys : List ℕ) → at + length xs + length ys ≤ length d → put (put d (at + length xs) ys) at xs ≡ put d at (xs ++ ys)
+pub put-before : (d : List ℕ) (at : ℕ) (xs ys : List ℕ) → at + length xs + length ys ≤ length d → put (put d (at + length xs) ys) at xs ≡ put d at (xs ++ ys)
 unfolding put
 put-before d at xs ys h =
     let n : at + length (xs ++ ys) ≡ at + length xs + length ys = rw length-append (omega arith) in
@@ -84,24 +86,45 @@ put-mid d a bs h =
     let e : drop (length d - a) (drop a d) ≡ [] = drop-of-length-le (drop a d) {i = length d - a} (rw length-drop (omega arith)) in
     rw (m, e, append-nil, zero-add, drop-drop)
 
-module _ (kind : ℕ) {body : Answer (List ℕ)} (d : List ℕ) where
-  pub message-refused : {r : Refusal} → body ≡ refused r → Came (messageText kind body) 0 d (refused r) d
-  unfolding messageText
-  message-refused e = text-refused 0 d (rw e)
+-- a body that may be written: its bytes, and how many they are
+pub record Body (body : Answer (List ℕ)) (bs : List ℕ) (n : ℕ) : Type 0 where
+  pub is : body ≡ accepted bs
+  pub long : n ≡ length bs
+  pub small : n < 16777216
 
-  module _ (b : List ℕ) (e : body ≡ accepted b) (h : length b < 16777216) where
-    pub message-out : {r : Refusal} → partAt NoRoom d 0 (4 + length b) ≡ refused r → Came (messageText kind body) 0 d (refused r) d
-    message-out {r} q = text-out (headBytes kind (length b) ++ b) 0 d {r = r} (message-is kind b e h) (rw (length-message kind b) q)
+-- it fits into what is lent from byte 4 on
+pub body-fits : {body : Answer (List ℕ)} {bs : List ℕ} {n : ℕ} (d : List ℕ) → Body body bs n → {p : Part} → partAt NoRoom d 0 (4 + n) ≡ accepted p → length bs ≤ length (midOf 4 (length d - 4) d)
+body-fits {n = n} d b q = rw (length-take, length-drop) (omega (arith, b .long, fits NoRoom d 0 (4 + n) q .inside))
 
-    -- the body lent from byte 4 on is ys, and the head is written before it
-    pub message-in : {p : Part} (ys out : List ℕ) → partAt NoRoom d 0 (4 + length b) ≡ accepted p → ys ≡ put (midOf 4 (length d - 4) d) 0 b
-        → out ≡ written (headText kind (length b)) 0 (putMid 4 (length d - 4) d ys) → Came (messageText kind body) 0 d (accepted (p .next)) out
-    message-in {p} ys out q y o =
-        let f : 4 + length b ≤ length d = omega (arith, fits NoRoom d 0 (4 + length b) q .inside) in
-        let l = length-head kind (length b) in
-        let m : putMid 4 (length d - 4) d ys ≡ put d 4 b = rw y (put-mid d 4 b f) in
-        let k : length (put d 4 b) ≡ length d = length-put d 4 b f in
-        let w : out ≡ put (put d 4 b) 0 (headBytes kind (length b)) = o ∙ rw m (written-in (headBytes kind (length b)) 0 (put d 4 b) (head-is kind (length b) h) (omega (arith, l, k))) in
-        let g : put (put d (0 + length (headBytes kind (length b))) b) 0 (headBytes kind (length b)) ≡ put d 0 (headBytes kind (length b) ++ b) = put-before d 0 (headBytes kind (length b)) b (omega (arith, l)) in
-        let c = text-in (headBytes kind (length b) ++ b) 0 d {p = p} (message-is kind b e h) (rw (length-message kind b) q) in
-        record { says = c .says; leaves = c .leaves ∙ sym (w ∙ rw l at g) }
+-- the message of a body, written: the body may not be, or there is no room, or it is put in from byte 4 on and then the head
+pub message-refused : (kind : ℕ) {body : Answer (List ℕ)} (d : List ℕ) {r : Refusal} → body ≡ refused r → Came (messageText kind body) 0 d (refused r) d
+unfolding messageText
+message-refused kind d e = text-refused 0 d (rw e)
+
+module _ (kind : ℕ) {body : Answer (List ℕ)} {bs : List ℕ} {n : ℕ} (d : List ℕ) (b : Body body bs n) where
+  whole-is : messageText kind body ≡ accepted (headBytes kind n ++ bs)
+  whole-is = rw (b .long) (message-is kind bs (b .is) (rw (b .long) at (b .small)))
+
+  length-whole : length (headBytes kind n ++ bs) ≡ 4 + n
+  length-whole = rw (length-append, length-head kind n, ← b .long)
+
+  pub message-out : {r : Refusal} → partAt NoRoom d 0 (4 + n) ≡ refused r → Came (messageText kind body) 0 d (refused r) d
+  message-out {r} q = text-out (headBytes kind n ++ bs) 0 d {r = r} whole-is (rw length-whole q)
+
+  -- the body lent from byte 4 on is ys, and the head is written before it
+  pub message-in : {p : Part} (ys out : List ℕ) → partAt NoRoom d 0 (4 + n) ≡ accepted p → ys ≡ put (midOf 4 (length d - 4) d) 0 bs
+      → out ≡ written (headText kind n) 0 (putMid 4 (length d - 4) d ys) → Came (messageText kind body) 0 d (accepted (p .next)) out
+  message-in {p} ys out q y o =
+      let f : 4 + length bs ≤ length d = omega (arith, fits NoRoom d 0 (4 + n) q .inside, b .long) in
+      let l = length-head kind n in
+      let m : putMid 4 (length d - 4) d ys ≡ put d 4 bs = rw y (put-mid d 4 bs f) in
+      let k : length (put d 4 bs) ≡ length d = length-put d 4 bs f in
+      let w : out ≡ put (put d 4 bs) 0 (headBytes kind n) = o ∙ rw m (written-in (headBytes kind n) 0 (put d 4 bs) (head-is kind n (b .small)) (omega (arith, l, k))) in
+      let g : put (put d (0 + length (headBytes kind n)) bs) 0 (headBytes kind n) ≡ put d 0 (headBytes kind n ++ bs) = put-before d 0 (headBytes kind n) bs (omega (arith, l)) in
+      let c = text-in (headBytes kind n ++ bs) 0 d {p = p} whole-is (rw length-whole q) in
+      record { says = c .says; leaves = c .leaves ∙ sym (w ∙ rw l at g) }
+
+  -- the same where one text puts the body in
+  pub message-by : {t : Answer (List ℕ)} {p : Part} (ys out : List ℕ) → t ≡ accepted bs → partAt NoRoom d 0 (4 + n) ≡ accepted p → ys ≡ written t 0 (midOf 4 (length d - 4) d)
+      → out ≡ written (headText kind n) 0 (putMid 4 (length d - 4) d ys) → Came (messageText kind body) 0 d (accepted (p .next)) out
+  message-by {p = p} ys out e q y o = message-in {p = p} ys out q (y ∙ written-in bs 0 (midOf 4 (length d - 4) d) e (omega (arith, body-fits d b q))) o

@@ -8,14 +8,9 @@ use Rattle.refusal.specs.declared.Reason.the-variants.{BadLength}
 use Rattle.wire.specs.Parts.{pick, partOf}
 use Rattle.wire.specs.Numbers.{bytesOf, numberText}
 use Rattle.wire.specs.declared.view.View.{View}
-use Rattle.field.specs.Fields.{Field, counted, ruleOf}
-use Rattle.field.specs.declared.Kind.the-variants.{Plain}
+use Rattle.field.specs.Fields.{sized}
 use Rattle.field.specs.Texts.{fieldText}
 use Rattle.text.specs.Hellos.{inside}
-
--- a length of w bytes and that many bytes
-abbrev pub sized : ℕ → Field
-sized w = counted w (ruleOf Plain)
 
 -- type and length, for a body of n bytes
 unfoldable pub headText : ℕ → ℕ → Answer (List ℕ)

@@ -11,7 +11,7 @@ use Rattle.refusal.specs.declared.Reason.the-variants.{NoSuch}
 use Rattle.refusal.specs.declared.Refusal.{Refusal}
 use Rattle.refusal.proofs.Then.{not-both, then-accepted, then-refused, either}
 use Rattle.list.specs.Items.{itemsFrom, place, orNoSuch}
-use Rattle.list.proofs.Walk.{Moves, rest, rest-on, rest-end, first, go-on, got, none, none-after, place-past}
+use Rattle.list.proofs.Walk.{Moves, rest, fuel, rest-on, rest-end, first, go-on, got, none, none-after, place-past}
 use Rattle.message.specs.declared.handshake.TlsMessageHandshake.{TlsMessageHandshake}
 use Rattle.envelope.specs.Opening.{Met, metAt}
 use Rattle.envelope.specs.declared.TlsMessageHead.{TlsMessageHead}
@@ -30,20 +30,8 @@ left s at = rest (metAt s) behind (length s) at
 pub by-messages : (s : List ℕ) → Moves (metAt s) behind (length s)
 by-messages s = record { on = λ at x e. let i = met-lies s at e in (omega arith, i .inside) }
 
--- any number of turns will do that is not below the bytes left
-turns : (s : List ℕ) (k at : ℕ) → length s - at ≤ k → itemsFrom k (metAt s) behind at ≡ left s at
-unfolding itemsFrom
-turns s zero at h = let z : length s - at ≡ 0 = omega arith in rw z
-turns s (suc k) at h = go (λ p i. turns s k p i) (metAt s at) refl
-  where
-    go : ((p : ℕ) → length s - p ≤ k → itemsFrom k (metAt s) behind p ≡ left s p) → (a : Answer Met) → metAt s at ≡ a → itemsFrom (suc k) (metAt s) behind at ≡ left s at
-    go ih (accepted x) e =
-        let i = by-messages s .on at _ e in
-        rw (rest-on (by-messages s) at e, e, ih (behind x) (omega arith))
-    go ih (refused r) e = rw (rest-end (by-messages s) at e, e)
-
 pub all-from : (s : List ℕ) (at : ℕ) → messagesFrom s at ≡ left s at
-all-from s at = turns s (length s) at (omega arith)
+all-from s at = fuel (by-messages s) (length s) (length s - at) at (omega arith) (omega arith)
 
 -- the message that is met at a place, and those behind it
 pub one-more : (s : List ℕ) (at : ℕ) {x : Met} → metAt s at ≡ accepted x → messagesFrom s at ≡ x ∷ messagesFrom s (behind x)

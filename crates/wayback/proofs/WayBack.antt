@@ -16,7 +16,7 @@ use Rattle.wire.specs.Parts.{partOf}
 use Rattle.wire.specs.Numbers.{Bytes, be, bytesOf}
 use Rattle.wire.proofs.Parts.{part-in}
 use Rattle.wire.proofs.Numbers.{length-bytes, be-of, be-drop, number-got}
-use Rattle.field.specs.Fields.{ruleOf}
+use Rattle.field.specs.Fields.{ruleOf, sized}
 use Rattle.field.specs.Standing.{fieldBytes, Obeys}
 use Rattle.field.specs.declared.Kind.the-variants.{Plain}
 use Rattle.field.proofs.Steps.{length-counted, step-of, view-of}
@@ -39,18 +39,18 @@ use Rattle.hellos.proofs.Opened as hellos
 use Rattle.envelope.specs.Heads.{headAt}
 use Rattle.envelope.specs.Opening.{opened, byType, metAt}
 use Rattle.envelope.proofs.Whole.{whole-body}
-use Rattle.record.specs.Records.{raw}
+use Rattle.record.specs.Records.{fragment, raw}
 use Rattle.record.proofs.Whole.{all-records}
 use Rattle.record.specs.declared.TlsRecordHeader.{TlsRecordHeader}
 use Rattle.text.specs.Hellos.{helloText}
-use Rattle.text.specs.Messages.{sized, messageText, viewText}
+use Rattle.text.specs.Messages.{messageText, viewText}
 use Rattle.wayback.specs.Hellos.{again}
 use Rattle.wayback.proofs.Wrote.{picked, message-wrote, hello-wrote, view-wrote, sized-wrote}
 use Rattle.wayback.proofs.Bytes.{bytes-append, bytes-number, bytes-field}
 use Rattle.gendraft18.proofs.Lengths.{draft18-length}
 use Rattle.genpart.specs.Exchange.{exchangeText}
 use Rattle.genmessage.specs.Messages.{handshakeText}
-use Rattle.genrecord.specs.Records.{fragment, recordBytes, recordText}
+use Rattle.genrecord.specs.Records.{recordBytes, recordText}
 use Rattle.wayback.proofs.Demand3.{draft18-version, demand3}
 use Rattle.wayback.specs.WayBack.{Found, ReadsHello, wholeOf, exchangeBody, Messages, InRecord, WayBack}
 

@@ -10,13 +10,13 @@ use Rattle.refusal.proofs.Then.{not-both, then-accepted}
 use Rattle.wire.specs.Parts.{pick, partOf}
 use Rattle.wire.specs.Numbers.{bytesOf}
 use Rattle.wire.specs.declared.view.View.{View}
-use Rattle.field.specs.Fields.{Field}
+use Rattle.field.specs.Fields.{Field, sized}
 use Rattle.field.specs.Standing.{fieldBytes, Obeys}
 use Rattle.field.specs.Texts.{allowed, fieldText}
 use Rattle.field.proofs.Texts.{obeys}
 use Rattle.grammar.specs.Forms.{Form}
 use Rattle.text.specs.Hellos.{inside, mayWrite, helloBytes, helloText}
-use Rattle.text.specs.Messages.{sized, messageText, viewText, sizedText}
+use Rattle.text.specs.Messages.{messageText, viewText, sizedText}
 use Rattle.text.proofs.Hellos.{Obeyed, obeyed}
 
 -- the bytes, by a test

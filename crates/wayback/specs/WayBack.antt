@@ -26,7 +26,8 @@ use Rattle.envelope.specs.Opening.{byType, metAt}
 use Rattle.envelope.specs.declared.TlsMessageHead.{TlsMessageHead}
 use Rattle.record.specs.Records.{raw}
 use Rattle.record.specs.declared.TlsRecordHeader.{TlsRecordHeader}
-use Rattle.text.specs.Messages.{sized, messageText}
+use Rattle.field.specs.Fields.{sized}
+use Rattle.text.specs.Messages.{messageText}
 use Rattle.wayback.specs.Hellos.{again}
 use Rattle.genmessage.specs.Messages.{handshakeText}
 use Rattle.genrecord.specs.Records.{recordText}

@@ -1,32 +1,20 @@
 -- `array::gen_numbers` meets its contract: there is no room, by either test, or the numbers are put in. Assumes nothing.
-use Prim.Native.Nat.{ℕ, _+_, _<_, _≤_}
-use mathlib.Core.List.{List}
-use mathlib.Core.Path.{_≡_, refl, sym, ap, _∙_}
+use Prim.Native.Nat.{ℕ}
+use mathlib.Core.Path.{_≡_, ap, _∙_}
 use native.Mathlib.Omega.{arith}
-use lib.ListN.{length}
-use Rattle.refusal.specs.Answers.{accepted, numberIn}
+use denote.Ref.{now}
 use Rattle.refusal.specs.Refusals.{numberOf, refusal}
 use Rattle.refusal.specs.declared.Reason.the-variants.{NoRoom}
 use Rattle.refusal.specs.declared.Refusal.{Refusal}
-use Rattle.wire.specs.Puts.{put, room, written}
-use Rattle.wire.proofs.Parts.{part-in, part-out}
-use Rattle.wire.proofs.Puts.{text-in, text-out}
+use Rattle.refusal.proofs.Told.{its-reason}
 use borrow.Author.Needs.{needs}
+use Rattle.array.proofs.Tells.{in-room, no-room}
 use Rattle.array.proofs.gen_numbers.Statement.{statement}
 use Rattle.array.proofs.gen_numbers.Tie as tie
 
--- NoRoom is said, and the array is as lent
-no-room : {n : ℕ} {r : Refusal} (bs : List ℕ) (at : ℕ) (d : List ℕ) → n ≡ numberOf (r .reason) → r ≡ refusal NoRoom 0 0 → length d < at + length bs → (n ≡ numberIn (room (accepted bs) at d)) × (d ≡ written (accepted bs) at d)
-unfolding refusal
-no-room bs at d e q h =
-    let o = text-out bs at d refl (part-out NoRoom d at (length bs) h) in
-    (e ∙ ap (λ (r : Refusal). numberOf (r .reason)) q ∙ sym (ap numberIn (o .says)), sym (o .leaves))
-
--- 0 is said, and the numbers are put in
-in-room : {d′ : List ℕ} (bs : List ℕ) (at : ℕ) (d : List ℕ) → d′ ≡ put d at bs → at + length bs ≤ length d → (0 ≡ numberIn (room (accepted bs) at d)) × (d′ ≡ written (accepted bs) at d)
-in-room bs at d e h =
-    let o = text-in bs at d refl (part-in NoRoom d at (length bs) h) in
-    (sym (ap numberIn (o .says)), e ∙ sym (o .leaves))
+-- the number that is said is NoRoom's
+number : {n : ℕ} {r : Refusal} → n ≡ numberOf (r .reason) → r ≡ refusal NoRoom 0 0 → n ≡ numberOf NoRoom
+number e q = e ∙ ap (λ (r : Refusal). numberOf (r .reason)) q ∙ ap numberOf (its-reason NoRoom 0 0)
 
 refuse-requires : tie.Need-refuse-requires
 refuse-requires c κs = search needs
@@ -37,7 +25,9 @@ refusal-number-requires c κs = search needs
 returns : tie.Need-returns
 returns c =
     let n = c .before in
-    no-room _ _ _ (n .refusal-number .ensures) (n .before .refuse .ensures) (omega arith)
+    let a = n .before .before .before .before .args in
+    let t = no-room (now (a .src)) (a .at) (now (a .out)) (omega arith) in
+    (number (n .refusal-number .ensures) (n .before .refuse .ensures) ∙ t .0, t .1)
 
 sub-if2 : tie.Need-sub-if2
 sub-if2 c = search needs
@@ -45,7 +35,9 @@ sub-if2 c = search needs
 returns-2 : tie.Need-returns-2
 returns-2 c =
     let n = c .before .before in
-    no-room _ _ _ (n .refusal-number .ensures) (n .before .refuse .ensures) (omega arith)
+    let a = n .before .before .before .before .args in
+    let t = no-room (now (a .src)) (a .at) (now (a .out)) (omega arith) in
+    (number (n .refusal-number .ensures) (n .before .refuse .ensures) ∙ t .0, t .1)
 
 put-numbers-requires : tie.Need-put-numbers-requires
 put-numbers-requires c κs = search needs
@@ -54,7 +46,11 @@ same-length : tie.Need-same-length
 same-length c = search needs
 
 returns-3 : tie.Need-returns-3
-returns-3 c = in-room _ _ _ (c .before .before .put-numbers .ensures) (omega arith)
+returns-3 c =
+    let p = c .before .before in
+    let a = p .before .before .before .before .before .before .before .before .args in
+    let t = in-room (now (a .src)) (a .at) (now (a .out)) (omega arith) in
+    (t .0, p .put-numbers .ensures ∙ t .1)
 
 pub gen-numbers-spec : {M : Type 1} → statement M
 gen-numbers-spec =

@@ -9,15 +9,14 @@ use Rattle.wire.specs.Numbers.{bytesIn}
 use Rattle.wire.specs.Parts.{partSays}
 use Rattle.wire.specs.declared.view.Part.{Part}
 use Rattle.wire.proofs.Numbers.{width-bounds}
-use Rattle.field.specs.Fields.{step}
-use Rattle.list.specs.Items.{item}
+use Rattle.field.specs.Fields.{step, sized}
 use Rattle.list.proofs.Fields.{by-steps, item-got, item-none}
 use Rattle.fill.proofs.Blocks.{Reached, begun, found, ended, filled, tell}
 use Rattle.fill.proofs.fill_items.Statement.{statement}
 use Rattle.fill.proofs.fill_items.Tie as tie
 
 abbrev Inv-loop : tie.InvT-loop
-Inv-loop s w from out₀ at₀ told₀ out at told = Reached (step (item (bytesIn w)) s) (λ (p : Part). p .next) (length s) 2 (λ (p : Part). p .view .start ∷ p .view .len ∷ []) from out₀ out at told
+Inv-loop s w from out₀ at₀ told₀ out at told = Reached (step (sized (bytesIn w)) s) (λ (p : Part). p .next) (length s) 2 (λ (p : Part). p .view .start ∷ p .view .len ∷ []) from out₀ out at told
 
 abbrev μ-loop : tie.MeasureT-loop
 μ-loop s w from out₀ at₀ told₀ out at told = length out₀ - told

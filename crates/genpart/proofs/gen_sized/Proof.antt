@@ -1,13 +1,18 @@
--- `genpart::gen_sized` meets its contract: the part may not be written, or there is no room, or length and part and the head are put in. Assumes nothing.
-use mathlib.Core.Path.{ap, sym, _∙_}
+-- `genpart::gen_sized` meets its contract: the part may not be written, or there is no room, or length and part and the head are put in.
+-- Assumes nothing.
+use Prim.Native.Nat.{_+_}
+use mathlib.Core.Path.{_≡_}
 use native.Mathlib.Omega.{arith}
-use borrow.Author.Tests.{not-true, not-false}
+use lib.ListN.{length}
 use denote.Ref.{now}
-use Rattle.refusal.specs.Answers.{refused}
+use Rattle.refusal.specs.Answers.{accepted}
+use Rattle.refusal.specs.declared.Reason.the-variants.{NoRoom}
 use Rattle.refusal.proofs.Told.{case}
-use Rattle.wire.specs.Parts.{partSays}
+use Rattle.wire.specs.Parts.{partAt, partSays}
+use Rattle.wire.specs.Numbers.{bytesIn}
 use Rattle.wire.proofs.Parts.{fits}
-use Rattle.genpart.proofs.Parts.{sized-refused, sized-body, body-out, body-in}
+use Rattle.text.proofs.Messages.{ensured, message-out, message-by}
+use Rattle.genpart.proofs.Parts.{SizedBody, sized-refused, sized-body}
 use borrow.Author.Needs.{needs}
 use Rattle.genpart.proofs.gen_sized.Statement.{statement}
 use Rattle.genpart.proofs.gen_sized.Tie as tie
@@ -19,17 +24,17 @@ refuse-requires : tie.Need-refuse-requires
 refuse-requires c κs = search needs
 
 returns : tie.Need-returns
-returns c =
-    let m = c .before .before in
-    let a = m .before .before .before .args in
-    let o = sized-refused (now (a .i)) (a .v) _ (a .kind) _ (sym (m .part-may .ensures) ∙ not-true _ (c .before .if1 .taken)) in
-    (ap refused (c .refuse .ensures) ∙ sym (o .says), sym (o .leaves))
+returns c = ensured (sized-refused _ _ _ _ _ (c .before .before .part-may .ensures) (c .before .if1 .taken) (c .refuse .ensures))
 
 part-of-requires : tie.Need-part-of-requires
 part-of-requires c κs = search needs
 
 width-bytes-requires : tie.Need-width-bytes-requires
 width-bytes-requires c κs = search needs
+
+-- the part may be written
+body : (c : tie.After-width-bytes) → SizedBody (now (c .before .before .before .before .before .before .args .i)) (c .before .before .before .before .before .before .args .v) (bytesIn (c .before .before .before .before .before .before .args .w)) (now (c .before .part-of .result)) (c .width-bytes .result + length (now (c .before .part-of .result)))
+body c = sized-body _ _ _ (c .before .before .before .part-may .ensures) (c .before .before .if1 .left) _ (c .before .part-of .ensures) (c .before .before .before .before .before .before .pre) _ (c .width-bytes .ensures)
 
 add-n : tie.Need-add-n
 add-n c = search needs
@@ -46,8 +51,12 @@ enum-known-r c = search needs
 enum-known-p : tie.Need-enum-known-p
 enum-known-p c = search needs
 
+-- there is room
+room : (c : tie.After-p) → partAt NoRoom (now (c .before .before .before .before .before .before .before .before .before .before .args .out)) 0 (4 + (c .before .before .before .before .width-bytes .result + length (now (c .before .before .before .before .before .part-of .result)))) ≡ accepted (c .p .given .0 .0)
+room c = case partSays (c .before .before .take-or .ensures) (c .p .given .1)
+
 sub-gen-length-data : tie.Need-sub-gen-length-data
-sub-gen-length-data c = omega (arith, fits _ _ _ _ (case partSays (c .before .before .before .take-or .ensures) (c .before .p .given .1)) .inside)
+sub-gen-length-data c = omega (arith, fits _ _ _ _ (room (c .before)) .inside)
 
 part-gen-length-data-start : tie.Need-part-gen-length-data-start
 part-gen-length-data-start c = omega (arith, sub-gen-length-data c)
@@ -66,15 +75,8 @@ same-length c = search needs
 
 returns-2 : tie.Need-returns-2
 returns-2 c =
-    let k = c .before .before .before in
-    let w = k .before .before in
-    let g = w .before in
-    let m = g .before .before in
-    let i = m .before .before .before in
-    let a = i .args in
-    let b = sized-body (now (a .i)) (a .v) _ (sym (m .part-may .ensures) ∙ not-false _ (g .before .if1 .left)) _ (g .part-of .ensures) (i .pre) _ (w .width-bytes .ensures) in
-    let o = body-out (a .kind) _ b (case partSays (k .take-or .ensures) (c .before .r .given .1)) in
-    (sym (o .says), sym (o .leaves))
+    let t = c .before .before .before in
+    ensured (message-out _ _ (body (t .before .before) .body) (case partSays (t .take-or .ensures) (c .before .r .given .1)))
 
 same-length-2 : tie.Need-same-length-2
 same-length-2 c = search needs
@@ -83,16 +85,9 @@ returns-3 : tie.Need-returns-3
 returns-3 c =
     let h = c .before .before in
     let y = h .before .before .before .before in
-    let p = y .before .before .before in
-    let k = p .before .before in
-    let w = k .before .before in
-    let g = w .before in
-    let m = g .before .before in
-    let i = m .before .before .before in
-    let a = i .args in
-    let b = sized-body (now (a .i)) (a .v) _ (sym (m .part-may .ensures) ∙ not-false _ (g .before .if1 .left)) _ (g .part-of .ensures) (i .pre) _ (w .width-bytes .ensures) in
-    let o = body-in (a .kind) _ b _ _ (case partSays (k .take-or .ensures) (p .p .given .1)) (y .gen-length-data .ensures .1) (h .gen-head .ensures .1) in
-    (sym (o .says), sym (o .leaves))
+    let q = y .before .before .before in
+    let b = body (q .before .before .before .before) in
+    ensured (message-by _ _ (b .body) _ _ (b .by) (room q) (y .gen-length-data .ensures .1) (h .gen-head .ensures .1))
 
 pub gen-sized-spec : {M : Type 1} → statement M
 gen-sized-spec =

@@ -1,13 +1,17 @@
 -- `genpart::gen_view` meets its contract: the part may not be written, or there is no room, or part and head are put in. Assumes nothing.
-use mathlib.Core.Path.{ap, sym, _∙_}
+use Prim.Native.Nat.{_+_}
+use mathlib.Core.Path.{_≡_, refl}
 use native.Mathlib.Omega.{arith}
-use borrow.Author.Tests.{not-true, not-false}
+use lib.ListN.{length}
 use denote.Ref.{now}
-use Rattle.refusal.specs.Answers.{refused}
+use Rattle.refusal.specs.Answers.{accepted}
+use Rattle.refusal.specs.declared.Reason.the-variants.{NoRoom}
 use Rattle.refusal.proofs.Told.{case}
-use Rattle.wire.specs.Parts.{partSays}
+use Rattle.wire.specs.Parts.{partAt, partSays}
 use Rattle.wire.proofs.Parts.{fits}
-use Rattle.genpart.proofs.Parts.{view-refused, view-body, body-out, body-in}
+use Rattle.text.specs.Messages.{viewText}
+use Rattle.text.proofs.Messages.{Body, ensured, message-out, message-by}
+use Rattle.genpart.proofs.Parts.{view-refused, view-body}
 use borrow.Author.Needs.{needs}
 use Rattle.genpart.proofs.gen_view.Statement.{statement}
 use Rattle.genpart.proofs.gen_view.Tie as tie
@@ -19,14 +23,14 @@ refuse-requires : tie.Need-refuse-requires
 refuse-requires c κs = search needs
 
 returns : tie.Need-returns
-returns c =
-    let m = c .before .before in
-    let a = m .before .before .before .args in
-    let o = view-refused (now (a .i)) (a .v) (a .kind) _ (sym (m .part-may .ensures) ∙ not-true _ (c .before .if1 .taken)) in
-    (ap refused (c .refuse .ensures) ∙ sym (o .says), sym (o .leaves))
+returns c = ensured (view-refused _ _ _ _ (c .before .before .part-may .ensures) (c .before .if1 .taken) (c .refuse .ensures))
 
 part-of-requires : tie.Need-part-of-requires
 part-of-requires c κs = search needs
+
+-- the part may be written
+body : (c : tie.After-part-of) → Body (viewText (now (c .before .before .before .before .before .args .i)) (c .before .before .before .before .before .args .v)) (now (c .part-of .result)) (length (now (c .part-of .result)))
+body c = view-body _ _ (c .before .before .part-may .ensures) (c .before .if1 .left) _ (c .part-of .ensures)
 
 add-take-or : tie.Need-add-take-or
 add-take-or c = search needs
@@ -40,8 +44,12 @@ enum-known-r c = search needs
 enum-known-p : tie.Need-enum-known-p
 enum-known-p c = search needs
 
+-- there is room
+room : (c : tie.After-p) → partAt NoRoom (now (c .before .before .before .before .before .before .before .before .before .args .out)) 0 (4 + length (now (c .before .before .before .before .part-of .result))) ≡ accepted (c .p .given .0 .0)
+room c = case partSays (c .before .before .take-or .ensures) (c .p .given .1)
+
 sub-gen-bytes : tie.Need-sub-gen-bytes
-sub-gen-bytes c = omega (arith, fits _ _ _ _ (case partSays (c .before .before .before .take-or .ensures) (c .before .p .given .1)) .inside)
+sub-gen-bytes c = omega (arith, fits _ _ _ _ (room (c .before)) .inside)
 
 part-gen-bytes-start : tie.Need-part-gen-bytes-start
 part-gen-bytes-start c = omega (arith, sub-gen-bytes c)
@@ -60,13 +68,8 @@ same-length c = search needs
 
 returns-2 : tie.Need-returns-2
 returns-2 c =
-    let k = c .before .before .before in
-    let g = k .before .before in
-    let m = g .before .before in
-    let a = m .before .before .before .args in
-    let b = view-body (now (a .i)) (a .v) (sym (m .part-may .ensures) ∙ not-false _ (g .before .if1 .left)) _ (g .part-of .ensures) in
-    let o = body-out (a .kind) _ b (case partSays (k .take-or .ensures) (c .before .r .given .1)) in
-    (sym (o .says), sym (o .leaves))
+    let t = c .before .before .before in
+    ensured (message-out _ _ (body (t .before .before)) (case partSays (t .take-or .ensures) (c .before .r .given .1)))
 
 same-length-2 : tie.Need-same-length-2
 same-length-2 c = search needs
@@ -75,14 +78,8 @@ returns-3 : tie.Need-returns-3
 returns-3 c =
     let h = c .before .before in
     let y = h .before .before .before .before in
-    let p = y .before .before .before in
-    let k = p .before .before in
-    let g = k .before .before in
-    let m = g .before .before in
-    let a = m .before .before .before .args in
-    let b = view-body (now (a .i)) (a .v) (sym (m .part-may .ensures) ∙ not-false _ (g .before .if1 .left)) _ (g .part-of .ensures) in
-    let o = body-in (a .kind) _ b _ _ (case partSays (k .take-or .ensures) (p .p .given .1)) (y .gen-bytes .ensures .1) (h .gen-head .ensures .1) in
-    (sym (o .says), sym (o .leaves))
+    let q = y .before .before .before in
+    ensured (message-by _ _ (body (q .before .before .before .before)) _ _ refl (room q) (y .gen-bytes .ensures .1) (h .gen-head .ensures .1))
 
 pub gen-view-spec : {M : Type 1} → statement M
 gen-view-spec =

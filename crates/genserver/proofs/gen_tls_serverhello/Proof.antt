@@ -1,18 +1,20 @@
 -- `genserver::gen_tls_serverhello` meets its contract: a part may not be written, or there is no room, or fields and head are put
 -- in. Assumes nothing.
-use Prim.Native.Nat.{_+_, _≤_}
+use Prim.Native.Nat.{_+_}
 use mathlib.Core.Bool.{true}
-use mathlib.Core.Path.{ap, sym, _∙_}
+use mathlib.Core.Path.{_≡_, sym, _∙_}
 use native.Mathlib.Omega.{arith}
-use borrow.Author.Tests.{not-true, not-false}
-use lib.ListN.{length, length-take, length-drop}
+use borrow.Author.Tests.{not-false}
 use denote.Ref.{now}
-use Rattle.refusal.specs.Answers.{refused}
+use Rattle.refusal.specs.Answers.{accepted}
+use Rattle.refusal.specs.declared.Reason.the-variants.{NoRoom}
 use Rattle.refusal.proofs.Told.{case}
-use Rattle.wire.specs.Parts.{partSays}
+use Rattle.wire.specs.Parts.{partAt, partSays}
 use Rattle.wire.proofs.Parts.{fits}
 use Rattle.server.specs.Server.{server}
-use Rattle.text.proofs.Hellos.{hello-refused, hello-out, hello-in}
+use Rattle.text.specs.Hellos.{mayWrite}
+use Rattle.text.proofs.Hellos.{HelloBody, hello-refused, hello-body}
+use Rattle.text.proofs.Messages.{ensured, body-fits, message-out, message-in}
 use borrow.Author.Needs.{needs}
 use Rattle.genserver.proofs.gen_tls_serverhello.Statement.{statement}
 use Rattle.genserver.proofs.gen_tls_serverhello.Tie as tie
@@ -24,14 +26,18 @@ refuse-requires : tie.Need-refuse-requires
 refuse-requires c κs = search needs
 
 returns : tie.Need-returns
-returns c =
-    let w = c .before .before in
-    let a = w .before .before .before .args in
-    let o = hello-refused (server true) (now (a .i)) (a .m) 0x02 (now (a .out)) (sym (w .writable .ensures) ∙ not-true _ (c .before .if1 .taken)) in
-    (ap refused (c .refuse .ensures) ∙ sym (o .says), sym (o .leaves))
+returns c = ensured (hello-refused (server true) _ _ 0x02 _ (c .before .before .writable .ensures) (c .before .if1 .taken) (c .refuse .ensures))
+
+-- the parts may be written
+may : (c : tie.Else1) → mayWrite (server true) (now (c .before .before .before .before .args .i)) (c .before .before .before .before .args .m) ≡ true
+may c = sym (c .before .writable .ensures) ∙ not-false _ (c .if1 .left)
 
 fields-len-requires : tie.Need-fields-len-requires
-fields-len-requires c κs = sym (c .before .writable .ensures) ∙ not-false _ (c .if1 .left)
+fields-len-requires c κs = may c
+
+-- so there is a body
+body : (c : tie.After-fields-len) → HelloBody (server true) (now (c .before .before .before .before .before .args .i)) (c .before .before .before .before .before .args .m) (c .fields-len .result)
+body c = hello-body (server true) _ _ _ (may (c .before)) (c .fields-len .ensures .0) (omega (arith, c .fields-len .ensures .1))
 
 add-take-or : tie.Need-add-take-or
 add-take-or c = search needs
@@ -46,23 +52,23 @@ enum-known-p : tie.Need-enum-known-p
 enum-known-p c = search needs
 
 -- there is room
-inside : (c : tie.After-known-told2) → 4 + c .before .before .before .before .before .fields-len .result ≤ length (now (c .before .before .before .before .before .before .before .before .before .before .args .out))
-inside c = omega (arith, fits _ _ _ _ (case partSays (c .before .before .before .take-or .ensures) (c .before .p .given .1)) .inside)
+room : (c : tie.After-p) → partAt NoRoom (now (c .before .before .before .before .before .before .before .before .before .args .out)) 0 (4 + c .before .before .before .before .fields-len .result) ≡ accepted (c .p .given .0 .0)
+room c = case partSays (c .before .before .take-or .ensures) (c .p .given .1)
 
 sub-put-fields : tie.Need-sub-put-fields
-sub-put-fields c = omega (arith, inside c)
+sub-put-fields c = omega (arith, fits _ _ _ _ (room (c .before)) .inside)
 
 part-put-fields-start : tie.Need-part-put-fields-start
-part-put-fields-start c = omega (arith, inside c)
+part-put-fields-start c = omega (arith, sub-put-fields c)
 
 part-put-fields-end : tie.Need-part-put-fields-end
 part-put-fields-end c = search needs
 
 put-fields-requires : tie.Need-put-fields-requires
 put-fields-requires c κs =
-    let k = c .before .before .before .before .before .before in
-    let w = k .before .before in
-    (sym (w .writable .ensures) ∙ not-false _ (k .before .if1 .left), rw (← k .fields-len .ensures .0, length-take, length-drop) (omega (arith, inside (c .before))))
+    let p = c .before .before in
+    let k = p .before .before .before .before in
+    (may (k .before), body-fits _ (body k) (room p))
 
 gen-head-requires : tie.Need-gen-head-requires
 gen-head-requires c κs = search needs
@@ -73,13 +79,7 @@ same-length c = search needs
 returns-2 : tie.Need-returns-2
 returns-2 c =
     let t = c .before .before .before in
-    let k = t .before .before in
-    let w = k .before .before in
-    let a = w .before .before .before .args in
-    let l = k .fields-len .ensures in
-    let o = hello-out (server true) (now (a .i)) (a .m) 0x02 (now (a .out)) (sym (w .writable .ensures) ∙ not-false _ (k .before .if1 .left)) _ (l .0) (omega (arith, l .1))
-    (case partSays (t .take-or .ensures) (c .before .r .given .1)) in
-    (sym (o .says), sym (o .leaves))
+    ensured (message-out 0x02 _ (body (t .before .before)) (case partSays (t .take-or .ensures) (c .before .r .given .1)))
 
 same-length-2 : tie.Need-same-length-2
 same-length-2 c = search needs
@@ -89,14 +89,7 @@ returns-3 c =
     let h = c .before .before in
     let p = h .before .before .before .before in
     let q = p .before .before .before in
-    let t = q .before .before in
-    let k = t .before .before in
-    let w = k .before .before in
-    let a = w .before .before .before .args in
-    let l = k .fields-len .ensures in
-    let o = hello-in (server true) (now (a .i)) (a .m) 0x02 (now (a .out)) (sym (w .writable .ensures) ∙ not-false _ (k .before .if1 .left)) _ (l .0) (omega (arith, l .1))
-    _ _ (case partSays (t .take-or .ensures) (q .p .given .1)) (p .put-fields .ensures) (h .gen-head .ensures .1) in
-    (sym (o .says), sym (o .leaves))
+    ensured (message-in 0x02 _ (body (q .before .before .before .before)) _ _ (room q) (p .put-fields .ensures) (h .gen-head .ensures .1))
 
 pub gen-tls-serverhello-spec : {M : Type 1} → statement M
 gen-tls-serverhello-spec =

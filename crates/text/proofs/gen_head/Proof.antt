@@ -1,10 +1,9 @@
 -- `text::gen_head` meets its contract: the length is too large, or there is no room, or type and length are put in. Assumes nothing.
-use mathlib.Core.Path.{ap, sym, _∙_}
+use mathlib.Core.Path.{sym, _∙_}
 use native.Mathlib.Omega.{arith}
-use Rattle.refusal.specs.Answers.{refused}
 use Rattle.refusal.proofs.Told.{case}
 use Rattle.wire.specs.Parts.{partSays}
-use Rattle.text.proofs.Messages.{head-not, head-out, head-in}
+use Rattle.text.proofs.Messages.{ensured, head-not, head-out, head-in}
 use borrow.Author.Needs.{needs}
 use Rattle.text.proofs.gen_head.Statement.{statement}
 use Rattle.text.proofs.gen_head.Tie as tie
@@ -37,8 +36,7 @@ returns : tie.Need-returns
 returns c =
     let k = c .before .before .before in
     let w = k .before .before .before in
-    let o = head-out _ _ _ (sym (w .width-holds .ensures) ∙ k .before .before .if1 .taken) (case partSays (k .take-or .ensures) (c .before .r .given .1)) in
-    (sym (o .says), sym (o .leaves))
+    ensured (head-out _ _ _ (sym (w .width-holds .ensures) ∙ k .before .before .if1 .taken) (case partSays (k .take-or .ensures) (c .before .r .given .1)))
 
 same-length-2 : tie.Need-same-length-2
 same-length-2 c = search needs
@@ -50,14 +48,11 @@ returns-2 c =
     let p = a .before .before .before in
     let k = p .before .before in
     let w = k .before .before .before in
-    let o = head-in _ _ _ (sym (w .width-holds .ensures) ∙ k .before .before .if1 .taken) _ _ (omega arith) (case partSays (k .take-or .ensures) (p .p .given .1)) (a .gen-be .ensures .1) (b .gen-be2 .ensures .1) in
-    (sym (o .says), sym (o .leaves))
+    ensured (head-in _ _ _ (sym (w .width-holds .ensures) ∙ k .before .before .if1 .taken) _ _ (omega arith) (case partSays (k .take-or .ensures) (p .p .given .1)) (a .gen-be .ensures .1) (b .gen-be2 .ensures .1))
 
 returns-3 : tie.Need-returns-3
 returns-3 c =
-    let w = c .before .before in
-    let o = head-not (w .before .before .args .kind) _ _ (sym (w .width-holds .ensures) ∙ c .before .if1 .left) in
-    (ap refused (c .refuse .ensures) ∙ sym (o .says), sym (o .leaves))
+    ensured (head-not _ _ _ (sym (c .before .before .width-holds .ensures) ∙ c .before .if1 .left) (c .refuse .ensures))
 
 pub gen-head-spec : {M : Type 1} → statement M
 gen-head-spec =

@@ -5,7 +5,7 @@ use mathlib.Core.List.{List, [], _∷_}
 use denote.Ref.{now}
 use Rattle.refusal.proofs.Told.{case}
 use Rattle.wire.specs.Parts.{partSays}
-use Rattle.list.specs.Items.{item}
+use Rattle.field.specs.Fields.{sized}
 use Rattle.grammar.specs.Forms.{reading}
 use Rattle.grammar.proofs.Chain.{So, begin, and, stop, end}
 use Rattle.certs.specs.Request.{short}
@@ -17,7 +17,7 @@ use Rattle.certs.proofs.request.parse_certrequest_nosigalg.Tie as tie
 abbrev S1 : tie.After-p → List ℕ
 S1 c = now (c .before .before .before .before .args .i)
 
-abbrev at1 : (c : tie.After-p) → So (reading short (S1 c)) (S1 c) (item 2 ∷ [])
+abbrev at1 : (c : tie.After-p) → So (reading short (S1 c)) (S1 c) (sized 2 ∷ [])
 at1 c = and (begin short (S1 c)) (case partSays (c .before .before .length-data .ensures) (c .p .given .1))
 
 abbrev S2 : tie.After-p2 → List ℕ

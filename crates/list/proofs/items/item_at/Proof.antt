@@ -9,14 +9,15 @@ use Rattle.refusal.proofs.Told.{case}
 use Rattle.wire.specs.Numbers.{bytesIn}
 use Rattle.wire.specs.Parts.{partSays}
 use Rattle.wire.proofs.Numbers.{width-bounds}
-use Rattle.list.specs.Items.{item, items, place}
+use Rattle.field.specs.Fields.{sized}
+use Rattle.list.specs.Items.{items, place}
 use Rattle.list.proofs.Walk.{next, past-last}
 use Rattle.list.proofs.Fields.{left, by-steps, item-got, item-none, item-first}
 use Rattle.list.proofs.items.item_at.Statement.{statement}
 use Rattle.list.proofs.items.item_at.Tie as tie
 
 abbrev Inv-loop : tie.InvT-loop
-Inv-loop s w at from₀ k₀ from k = (k ≤ at) × (place at (items (item (bytesIn w)) s) ≡ place (at - k) (left (item (bytesIn w)) s from))
+Inv-loop s w at from₀ k₀ from k = (k ≤ at) × (place at (items (sized (bytesIn w)) s) ≡ place (at - k) (left (sized (bytesIn w)) s from))
 
 abbrev μ-loop : tie.MeasureT-loop
 μ-loop s w at from₀ k₀ from k = at - k

@@ -9,22 +9,22 @@ use Rattle.wire.specs.Numbers.{bytesIn}
 use Rattle.wire.specs.Parts.{partSays}
 use Rattle.wire.proofs.Numbers.{width-bounds}
 use Rattle.wire.specs.declared.view.Part.{Part}
-use Rattle.field.specs.Fields.{step}
+use Rattle.field.specs.Fields.{step, sized}
 use Rattle.field.proofs.Rules.{step-in}
-use Rattle.list.specs.Items.{item, items}
+use Rattle.list.specs.Items.{items}
 use Rattle.list.proofs.Walk.{rest-all, rest-on, rest-end}
 use Rattle.list.proofs.Fields.{left, by-steps, item-got, item-none}
 use Rattle.list.proofs.items.item_count.Statement.{statement}
 use Rattle.list.proofs.items.item_count.Tie as tie
 
 abbrev Inv-loop : tie.InvT-loop
-Inv-loop s w at₀ count₀ at count = (count ≤ at) × (at ≤ length s) × (length (items (item (bytesIn w)) s) ≡ count + length (left (item (bytesIn w)) s at))
+Inv-loop s w at₀ count₀ at count = (count ≤ at) × (at ≤ length s) × (length (items (sized (bytesIn w)) s) ≡ count + length (left (sized (bytesIn w)) s at))
 
 abbrev μ-loop : tie.MeasureT-loop
 μ-loop s w at₀ count₀ at count = length s - at
 
 loop-holds : tie.Need-loop-holds Inv-loop μ-loop
-loop-holds c = (omega arith, omega arith, omega (arith, ap length (rest-all (step (item (bytesIn (c .before .args .w))) (c .before .args .s .now)) (λ (p : Part). p .next) (length (c .before .args .s .now)))))
+loop-holds c = (omega arith, omega arith, omega (arith, ap length (rest-all (step (sized (bytesIn (c .before .args .w))) (c .before .args .s .now)) (λ (p : Part). p .next) (length (c .before .args .s .now)))))
 
 item-from-requires : tie.Need-item-from-requires Inv-loop μ-loop
 item-from-requires c κs = search needs

@@ -1,0 +1,3 @@
+mod Apart
+mod Calls
+pub mod Same
