@@ -1,5 +1,5 @@
--- What demand 3 says of the hellos, of these bodies, instances of the one theorem, and the ticket by the length given; and equal numbers and
--- values mean equal answers. Assumes nothing.
+-- What demand 3 says of the hellos, of these bodies, instances of the one theorem, and the ticket by the length given; and equal numbers
+-- and values mean equal answers. Assumes nothing.
 use Prim.Native.Nat.{ℕ}
 use mathlib.Core.Path.{_≡_, refl, _∙_}
 use mathlib.Core.List.{List}

@@ -1,5 +1,5 @@
--- The NewSessionTicket: document 01, "lifetime 4; the ticket is the whole rest of the body". RFC 5077 3.3 has a length of two bytes before the
--- ticket; the crate does not read it.
+-- The NewSessionTicket: document 01, "lifetime 4; the ticket is the whole rest of the body". RFC 5077 3.3 has a length of two bytes before
+-- the ticket; the crate does not read it.
 use Prim.Native.Nat.{ℕ, _-_}
 use mathlib.Core.List.{List, [], _∷_}
 use mathlib.Core.Option.{none}

@@ -1,5 +1,5 @@
--- What demand 3 says of the hellos, of these bodies: each form is accepted exactly when the body splits by its grammar, in one way, into what
--- is handed out. `grammar/specs/Demand3.antt` says it for every form. Shown by `proofs/Whole.antt`.
+-- What demand 3 says of the hellos, of these bodies: each form is accepted exactly when the body splits by its grammar, in one way, into
+-- what is handed out. `grammar/specs/Demand3.antt` says it for every form. Shown by `proofs/Whole.antt`.
 use Prim.Native.Nat.{ℕ, _-_, _≤_, _<_}
 use mathlib.Core.Path.{_≡_}
 use mathlib.Core.List.{List}

@@ -1,5 +1,5 @@
--- Each body that speaks of certificates is accepted exactly when it splits by its grammar, instances of the one theorem; and equal numbers and
--- values mean equal answers. Assumes nothing.
+-- Each body that speaks of certificates is accepted exactly when it splits by its grammar, instances of the one theorem; and equal numbers
+-- and values mean equal answers. Assumes nothing.
 use Prim.Native.Nat.{ℕ}
 use mathlib.Core.Path.{_≡_, refl}
 use mathlib.Core.List.{List}

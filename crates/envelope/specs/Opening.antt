@@ -1,5 +1,5 @@
--- What a message's type opens, and the message: document 01, "The other handshake bodies". "Length and body are taken before the type is looked
--- at."
+-- What a message's type opens, and the message: document 01, "The other handshake bodies". "Length and body are taken before the type is
+-- looked at."
 use Prim.Native.Nat.{ℕ}
 use mathlib.Core.List.{List}
 use lib.ListN.{length}

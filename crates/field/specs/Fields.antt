@@ -1,4 +1,5 @@
--- A field, its rule, and what reading it at a place finds. RFC 5246 4.3: a variable-length vector is its length in bytes and then its bytes.
+-- A field, its rule, and what reading it at a place finds. RFC 5246 4.3: a variable-length vector is its length in bytes and then its
+-- bytes.
 use Prim.Native.Nat.{ℕ, _%_}
 use mathlib.Core.List.{List}
 use mathlib.Core.Bool.{Bool, true}
@@ -13,15 +14,16 @@ use Rattle.wire.specs.declared.view.Part.{Part}
 use Rattle.field.specs.declared.Kind.{Kind}
 use Rattle.field.specs.declared.Kind.the-variants.{Plain, SessionId, Ciphers, Methods, Fragment}
 
--- the rule of a length: which are allowed, the refusal of another, the refusal where the bytes run past the end, and the refusal to write another
+-- the rule of a length: which are allowed, the refusal of another, the refusal where the bytes run past the end, and the refusal to write
+-- another
 pub record Rule : Type 0 where
   pub allows : ℕ → Bool
   pub broken : Reason
   pub past : Reason
   pub unfit : Reason
 
--- document 01's table: Verify for a session id over 32; LengthValue for ciphers odd or past the end, and for methods past the end; TooLarge for
--- a record's fragment over 16,640, "read or to be written"; else Incomplete, and BadLength in writing
+-- document 01's table: Verify for a session id over 32; LengthValue for ciphers odd or past the end, and for methods past the end; TooLarge
+-- for a record's fragment over 16,640, "read or to be written"; else Incomplete, and BadLength in writing
 abbrev pub ruleOf : Kind → Rule
 ruleOf Plain = record { allows = λ n. true; broken = Incomplete; past = Incomplete; unfit = BadLength }
 ruleOf SessionId = record { allows = λ n. leb n 32; broken = Verify; past = Incomplete; unfit = BadLength }

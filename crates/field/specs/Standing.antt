@@ -1,5 +1,5 @@
--- A field in the bytes, with no reader in it: what its bytes are, which parts it may have, where the part lies, and what it is for the bytes
--- to lack it. RFC 5246 4.3.
+-- A field in the bytes, with no reader in it: what its bytes are, which parts it may have, where the part lies, and what it is for the
+-- bytes to lack it. RFC 5246 4.3.
 use Prim.Native.Nat.{ℕ, _+_, _-_, _^_, _<_}
 use mathlib.Core.Path.{_≡_}
 use mathlib.Core.Logic.{_⊎_}

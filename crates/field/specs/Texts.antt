@@ -15,7 +15,8 @@ use Rattle.field.specs.Standing.{fieldBytes}
 abbrev pub both : Bool → Bool → Bool
 both a b = pick a b false
 
--- `Obeys` as a test of the length: a part of n bytes may stand in the field, n being its length, or one that w bytes can hold and the rule allows
+-- `Obeys` as a test of the length: a part of n bytes may stand in the field, n being its length, or one that w bytes can hold and the rule
+-- allows
 abbrev pub allowed : Field → ℕ → Bool
 allowed (fixed k) n = eqb n k
 allowed (counted w r) n = both (ltb n (256 ^ w)) (r .allows n)

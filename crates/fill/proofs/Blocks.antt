@@ -1,5 +1,5 @@
--- A block told into a lent array, one number after the other: what is told, and what is still to be told. And a walk over whatever is found at
--- one place after the other, told so. Assumes nothing.
+-- A block told into a lent array, one number after the other: what is told, and what is still to be told. And a walk over whatever is found
+-- at one place after the other, told so. Assumes nothing.
 use Prim.Native.Nat.{ℕ, suc, _+_, _-_, _/_, _<_, _≤_}
 use mathlib.Core.Path.{_≡_, refl, sym, ap, _∙_}
 use mathlib.Core.List.{List, [], _∷_, _++_, append-assoc, flatMap}

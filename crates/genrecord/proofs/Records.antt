@@ -1,4 +1,5 @@
--- A record written: a content that may not stand in one, no room, and type, version and content put in one behind the other. Assumes nothing.
+-- A record written: a content that may not stand in one, no room, and type, version and content put in one behind the other. Assumes
+-- nothing.
 use Prim.Native.Nat.{ℕ, _+_, _<_}
 use mathlib.Core.Path.{_≡_, sym, _∙_}
 use mathlib.Core.List.{List, _++_, append-nil}

@@ -1,5 +1,5 @@
--- A record written: document 01, "The record writer refuses more than 16,640 bytes as TooLarge; it writes an empty one. It copies the type, the
--- version and the lent bytes, and does not open them." The bytes are the fields by which a raw record is read, joined; RFC 5246 6.2.1.
+-- A record written: document 01, "The record writer refuses more than 16,640 bytes as TooLarge; it writes an empty one. It copies the type,
+-- the version and the lent bytes, and does not open them." The bytes are the fields by which a raw record is read, joined; RFC 5246 6.2.1.
 use Prim.Native.Nat.{ℕ}
 use mathlib.Core.List.{List}
 use lib.ListN.{length}

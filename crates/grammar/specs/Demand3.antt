@@ -1,4 +1,5 @@
--- Demand 3, its reading half, for every form: what is shown of the reading. Splits and lacks are those of `Splits.antt`, with no reader in them.
+-- Demand 3, its reading half, for every form: what is shown of the reading. Splits and lacks are those of `Splits.antt`, with no reader in
+-- them.
 use Prim.Native.Nat.{ℕ, _+_, _≤_}
 use mathlib.Core.Path.{_≡_}
 use mathlib.Core.Logic.{_⊎_}

@@ -1,5 +1,5 @@
--- What is handed out of a body as a value of the code, a hello's contents. A form has its grammar, how each field is handed out, and the value
--- made of that; and a value tells what it was made of. From this, and with no reader, the pieces and the views that a value names.
+-- What is handed out of a body as a value of the code, a hello's contents. A form has its grammar, how each field is handed out, and the
+-- value made of that; and a value tells what it was made of. From this, and with no reader, the pieces and the views that a value names.
 use Prim.Native.Nat.{ℕ}
 use mathlib.Core.List.{List, [], _∷_}
 use lib.ListN.{drop}

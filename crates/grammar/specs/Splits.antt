@@ -1,6 +1,6 @@
--- What it is for a body to split by a grammar, or to lack a field of it, with no reader in it. Document 01, "How tightly the gauge is fixed":
--- "a split is stated as fields that, joined in order with their lengths and the tail, are the body". Of one field the bytes, the parts it may
--- have and its lack are in `field/specs/Standing.antt`.
+-- What it is for a body to split by a grammar, or to lack a field of it, with no reader in it. Document 01, "How tightly the gauge is
+-- fixed": "a split is stated as fields that, joined in order with their lengths and the tail, are the body". Of one field the bytes, the
+-- parts it may have and its lack are in `field/specs/Standing.antt`.
 use Prim.Native.Nat.{ℕ, _+_}
 use mathlib.Core.Path.{_≡_}
 use mathlib.Core.Logic.{_⊎_}

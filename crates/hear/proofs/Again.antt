@@ -1,4 +1,5 @@
--- Hearing undoes telling: a number that fits its field passes the test of it, and a part that may be missing is told in one way. Assumes nothing.
+-- Hearing undoes telling: a number that fits its field passes the test of it, and a part that may be missing is told in one way. Assumes
+-- nothing.
 use Prim.Native.Nat.{ℕ, _<_}
 use mathlib.Core.Path.{_≡_, refl}
 use mathlib.Core.List.{List, _∷_}

@@ -1,5 +1,5 @@
--- Hearing undoes telling: the numbers that are told of a message are heard as that message where its kind is written, and are NotYetImplemented
--- where it is not. Shown by `proofs/Again.antt`.
+-- Hearing undoes telling: the numbers that are told of a message are heard as that message where its kind is written, and are
+-- NotYetImplemented where it is not. Shown by `proofs/Again.antt`.
 use Prim.Native.Nat.{_<_}
 use mathlib.Core.Path.{_≡_}
 use Rattle.refusal.specs.Answers.{Answer, accepted, refused}

@@ -1,5 +1,5 @@
--- The message that numbers tell of, to be written: `tell/specs/Messages.antt` the other way. Numbers that are too few, or that a field of theirs
--- cannot hold, are BadLength; a kind that is not written is NotYetImplemented before that.
+-- The message that numbers tell of, to be written: `tell/specs/Messages.antt` the other way. Numbers that are too few, or that a field of
+-- theirs cannot hold, are BadLength; a kind that is not written is NotYetImplemented before that.
 use Prim.Native.Nat.{ℕ, _+_}
 use mathlib.Core.List.{List}
 use lib.ListN.{length, getD}

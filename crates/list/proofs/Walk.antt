@@ -1,5 +1,5 @@
--- A walk over whatever is found at one place after the other: what is left at a place, by what is found there. What is found at a place ends
--- behind it and within the bytes. Assumes nothing.
+-- A walk over whatever is found at one place after the other: what is left at a place, by what is found there. What is found at a place
+-- ends behind it and within the bytes. Assumes nothing.
 use Prim.Native.Nat.{ℕ, zero, suc, _+_, _-_, _<_, _≤_}
 use mathlib.Core.Path.{_≡_, refl, sym, _∙_}
 use mathlib.Core.List.{List, [], _∷_}

@@ -1,5 +1,5 @@
--- Lists. Document 01: "A list inside its announced length ends at the first item that does not fit; the remainder is dropped." And its table:
--- NoSuch for "a list place at or past the count".
+-- Lists. Document 01: "A list inside its announced length ends at the first item that does not fit; the remainder is dropped." And its
+-- table: NoSuch for "a list place at or past the count".
 use Prim.Native.Nat.{ℕ, zero, suc}
 use mathlib.Core.List.{List, [], _∷_}
 use lib.ListN.{length}

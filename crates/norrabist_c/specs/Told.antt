@@ -1,5 +1,5 @@
--- What an export answers. The numbers of a value are put into the lent array as a text is into an output (`wire/specs/Puts.antt`): the answer is
--- the paper's number, 0 where all of them are in; a refusal, NoRoom among them, changes nothing.
+-- What an export answers. The numbers of a value are put into the lent array as a text is into an output (`wire/specs/Puts.antt`): the
+-- answer is the paper's number, 0 where all of them are in; a refusal, NoRoom among them, changes nothing.
 use Prim.Native.Nat.{ℕ}
 use mathlib.Core.List.{List, [], _∷_, _++_}
 use Rattle.refusal.specs.Answers.{Answer, accepted, refused, then, numberIn}

@@ -1,4 +1,5 @@
--- What demand 3 says of the hellos, of records, an instance of the one theorem; and equal numbers and values mean equal answers. Assumes nothing.
+-- What demand 3 says of the hellos, of records, an instance of the one theorem; and equal numbers and values mean equal answers. Assumes
+-- nothing.
 use mathlib.Core.Path.{_≡_, refl}
 use Rattle.refusal.specs.Answers.{Answer, accepted, refused, TellSame}
 use Rattle.refusal.proofs.Told.{tells-all}

@@ -1,5 +1,5 @@
--- Records that are not opened: document 01, "Records": "Type 1, version 2, length 2. Order: header Incomplete, TooLarge, body Incomplete"; RFC
--- 5246 6.2.1. The rule of the length is `Fragment` of `field/specs/Fields.antt`.
+-- Records that are not opened: document 01, "Records": "Type 1, version 2, length 2. Order: header Incomplete, TooLarge, body Incomplete";
+-- RFC 5246 6.2.1. The rule of the length is `Fragment` of `field/specs/Fields.antt`.
 use Prim.Native.Nat.{ℕ}
 use mathlib.Core.List.{List, [], _∷_}
 use mathlib.Core.Option.{none}

@@ -1,6 +1,6 @@
--- What demand 3 says of the hellos, of records: a raw record is accepted exactly when the bytes split into type, version, length and content, of
--- an allowed length, and what follows; refused, it is for the first of these that cannot be had. `grammar/specs/Demand3.antt` says it for every
--- form. Shown by `proofs/Whole.antt`.
+-- What demand 3 says of the hellos, of records: a raw record is accepted exactly when the bytes split into type, version, length and
+-- content, of an allowed length, and what follows; refused, it is for the first of these that cannot be had. `grammar/specs/Demand3.antt`
+-- says it for every form. Shown by `proofs/Whole.antt`.
 use Prim.Native.Nat.{ℕ}
 use mathlib.Core.List.{List}
 use Rattle.wire.specs.Numbers.{Bytes}

@@ -1,5 +1,5 @@
--- Demand 1: a call ends with a value or one refusal. Each answer of the code that is an enum has its `Says`, by cases, into this: the paper's
--- number and the values. That `Says` loses nothing is shown in `proofs/Told.antt`.
+-- Demand 1: a call ends with a value or one refusal. Each answer of the code that is an enum has its `Says`, by cases, into this: the
+-- paper's number and the values. That `Says` loses nothing is shown in `proofs/Told.antt`.
 use Prim.Native.Nat.{ℕ}
 use mathlib.Core.Path.{_≡_}
 use mathlib.Core.Option.{Option, none, some}

@@ -22,7 +22,7 @@ numberOf NotYetImplemented = 12
 unfoldable pub refusal : Reason → ℕ → ℕ → Refusal
 refusal why at lack = record { reason = why }
 
--- the refusal of what lies inside a part that begins at a place and is whole: its item begins so much later in the bytes lent, and no further
--- byte helps; it carries its number alone, so it stays as it is
+-- the refusal of what lies inside a part that begins at a place and is whole: its item begins so much later in the bytes lent, and no
+-- further byte helps; it carries its number alone, so it stays as it is
 unfoldable pub inside : ℕ → Refusal → Refusal
 inside at r = r

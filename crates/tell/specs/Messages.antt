@@ -1,5 +1,5 @@
--- A message as numbers: the number of its kind, then its contents in the order of their fields. A part is where it begins and how long it is; a
--- part that may be missing has a 1 before that, or is three times 0.
+-- A message as numbers: the number of its kind, then its contents in the order of their fields. A part is where it begins and how long it
+-- is; a part that may be missing has a 1 before that, or is three times 0.
 use Prim.Native.Nat.{ℕ}
 use mathlib.Core.List.{List, [], _∷_, _++_}
 use Rattle.refusal.specs.Answers.{Answer, accepted, then}

@@ -1,6 +1,7 @@
--- What is written of a hello: document 01, "What may be written". A text is the finished bytes, or the refusal to write any. The bytes are the
--- fields by which the hello is read, joined in order, and then the extensions: "absent extensions write 00 00". Its limits (random exactly 32, id at
--- most 32, ciphers even and at most 65,534, methods at most 255, extensions at most 65,535) are the rules of the fields, `grammar/specs/Hellos.antt`.
+-- What is written of a hello: document 01, "What may be written". A text is the finished bytes, or the refusal to write any. The bytes are
+-- the fields by which the hello is read, joined in order, and then the extensions: "absent extensions write 00 00". Its limits (random
+-- exactly 32, id at most 32, ciphers even and at most 65,534, methods at most 255, extensions at most 65,535) are the rules of the fields,
+-- `grammar/specs/Hellos.antt`.
 use Prim.Native.Nat.{ℕ, _+_}
 use mathlib.Core.List.{List, [], _∷_, _++_}
 use mathlib.Core.Bool.{Bool, true}

@@ -1,5 +1,5 @@
--- What is written of a message: document 01, "A message is type 1, length 3, body"; RFC 5246 7.4. A body that is one part is the part, or the
--- part behind its length.
+-- What is written of a message: document 01, "A message is type 1, length 3, body"; RFC 5246 7.4. A body that is one part is the part, or
+-- the part behind its length.
 use Prim.Native.Nat.{ℕ}
 use mathlib.Core.List.{List, _++_}
 use Rattle.refusal.specs.Answers.{Answer, accepted, refused, then}

@@ -1,6 +1,6 @@
--- The messages of a handshake record's content, and the walk over them. Document 01: "Later messages are taken until one is refused; the bytes
--- from there on are dropped, and their number is told", and "The record walk hands back the next message and the walk moved on; past the last
--- message it answers NoSuch and stays."
+-- The messages of a handshake record's content, and the walk over them. Document 01: "Later messages are taken until one is refused; the
+-- bytes from there on are dropped, and their number is told", and "The record walk hands back the next message and the walk moved on; past
+-- the last message it answers NoSuch and stays."
 use Prim.Native.Nat.{ℕ, zero, suc, _-_}
 use mathlib.Core.Path.{_≡_}
 use mathlib.Core.List.{List, [], _∷_}

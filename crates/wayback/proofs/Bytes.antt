@@ -1,5 +1,5 @@
--- Bytes made of bytes: those of a number, of a part, and of one text behind the other; so the text of a hello is of bytes where those lent with
--- the value are. Assumes nothing.
+-- Bytes made of bytes: those of a number, of a part, and of one text behind the other; so the text of a hello is of bytes where those lent
+-- with the value are. Assumes nothing.
 use Prim.Native.Nat.{ℕ, zero, suc, _+_, _/_, _%_}
 use mathlib.Core.List.{List, [], _∷_, _++_}
 use mathlib.Core.Bool.{Bool, true, false}

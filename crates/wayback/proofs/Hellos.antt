@@ -1,5 +1,5 @@
--- Demand 3, its writing half, over every lawful form whose last block is that of a hello: a hello that was read may be written, and its text is
--- the bytes before its tail; and the text of a hello is read. Assumes nothing.
+-- Demand 3, its writing half, over every lawful form whose last block is that of a hello: a hello that was read may be written, and its
+-- text is the bytes before its tail; and the text of a hello is read. Assumes nothing.
 use Prim.Native.Nat.{ℕ, _+_, _-_, _<_, _≤_}
 use mathlib.Core.Path.{_≡_, refl, sym, ap, _∙_}
 use mathlib.Core.List.{List, [], _∷_, _++_, append-assoc, append-nil}

@@ -1,5 +1,5 @@
--- What reading finds of what was written: one law for every message, cited by each kind, and the one theorem over every form for records and
--- hellos. Assumes nothing.
+-- What reading finds of what was written: one law for every message, cited by each kind, and the one theorem over every form for records
+-- and hellos. Assumes nothing.
 use Prim.Native.Nat.{ℕ, _+_, _<_, _≤_}
 use mathlib.Core.Path.{_≡_, refl, sym, ap, _∙_}
 use mathlib.Core.List.{List, [], _++_, append-assoc, append-nil}

@@ -20,8 +20,8 @@ use Rattle.text.specs.Hellos.{helloText}
 use Rattle.text.specs.Messages.{messageText}
 use Rattle.wayback.specs.Hellos.{back, WritesBack, ReadsAgain, again}
 
--- a hello that was read, written back; document 01: "A ClientHello that was read has at most 131,396 bytes before its tail". A ServerHello has at
--- most 2 + 32 + 33 + 2 + 1 + 2 + 65,535, one of draft 18 2 + 32 + 2 + 2 + 65,535
+-- a hello that was read, written back; document 01: "A ClientHello that was read has at most 131,396 bytes before its tail". A ServerHello
+-- has at most 2 + 32 + 33 + 2 + 1 + 2 + 65,535, one of draft 18 2 + 32 + 2 + 2 + 65,535
 pub record Back (body : List ℕ) : Type 0 where
   pub clientHello : WritesBack client 0x01 131396 body
   pub serverHello : (hasExt : Bool) → WritesBack (server hasExt) 0x02 65607 body

@@ -1,5 +1,5 @@
--- Demand 3, its writing half, for every form that hellos are read by: what is written of a hello that was read, and what is read of a hello that
--- was written. Shown by `proofs/Hellos.antt`.
+-- Demand 3, its writing half, for every form that hellos are read by: what is written of a hello that was read, and what is read of a hello
+-- that was written. Shown by `proofs/Hellos.antt`.
 use Prim.Native.Nat.{ℕ, _+_, _-_, _<_, _≤_}
 use mathlib.Core.Path.{_≡_}
 use mathlib.Core.List.{List, [], _∷_, _++_}
@@ -48,8 +48,8 @@ pub record WritesBack {C : Type 0} (k : Form C) (kind most : ℕ) (body : List �
   -- with room for the longest, it is never refused
   pub enough : (c : C) → reading k body ≡ accepted c → (out : List ℕ) → 4 + most ≤ length out → room (messageText kind (helloText k body c)) 0 out ≡ accepted (length (back k kind body c))
 
--- what a second reading finds of the block: where the form has one it is present, and empty if it was absent; where it has none (a ServerHello at
--- 0x0300) it is absent, and its bytes are tail
+-- what a second reading finds of the block: where the form has one it is present, and empty if it was absent; where it has none (a
+-- ServerHello at 0x0300) it is absent, and its bytes are tail
 abbrev pub blockAgain : Option Field → List ℕ → Option (List ℕ)
 blockAgain (some f) e = some e
 blockAgain none e = none

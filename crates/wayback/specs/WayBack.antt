@@ -1,5 +1,5 @@
--- What reading finds of what was written: of handshake messages and of records, whatever stands behind them. Of the hellos' bodies it is said in
--- `Demand3.antt`. Shown by `proofs/WayBack.antt`.
+-- What reading finds of what was written: of handshake messages and of records, whatever stands behind them. Of the hellos' bodies it is
+-- said in `Demand3.antt`. Shown by `proofs/WayBack.antt`.
 use Prim.Native.Nat.{ℕ, _+_, _<_}
 use mathlib.Core.Path.{_≡_}
 use mathlib.Core.List.{List, [], _++_}

@@ -1,4 +1,5 @@
--- `field::gen_length_data` meets its contract: the length is not allowed, or there is no room, or length and part are put in. Assumes nothing.
+-- `field::gen_length_data` meets its contract: the length is not allowed, or there is no room, or length and part are put in. Assumes
+-- nothing.
 use mathlib.Core.Path.{ap, sym, _∙_}
 use native.Mathlib.Omega.{arith}
 use Rattle.refusal.specs.Answers.{refused}

@@ -1,4 +1,5 @@
--- `genrecord::gen_tls_plaintext` meets its contract: the content is too large, or there is no room, or the record is put in. Assumes nothing.
+-- `genrecord::gen_tls_plaintext` meets its contract: the content is too large, or there is no room, or the record is put in. Assumes
+-- nothing.
 use mathlib.Core.Path.{ap, sym, _∙_}
 use native.Mathlib.Omega.{arith}
 use borrow.Author.Tests.{not-true, not-false}

@@ -1,4 +1,5 @@
--- `tell::tell_client_hello` meets its contract: the array has the numbers of the ClientHello, each part that may be missing by `opt_numbers`. Assumes nothing.
+-- `tell::tell_client_hello` meets its contract: the array has the numbers of the ClientHello, each part that may be missing by
+-- `opt_numbers`. Assumes nothing.
 use Rattle.tell.proofs.Telling.{told-as}
 use borrow.Author.Needs.{needs}
 use Rattle.tell.proofs.tell_client_hello.Statement.{statement}

@@ -1,4 +1,5 @@
--- `tell::tell_request` meets its contract: the array has the numbers of the CertificateRequest, the part that may be missing by `opt_numbers`. Assumes nothing.
+-- `tell::tell_request` meets its contract: the array has the numbers of the CertificateRequest, the part that may be missing by
+-- `opt_numbers`. Assumes nothing.
 use Rattle.tell.proofs.Telling.{told-as}
 use borrow.Author.Needs.{needs}
 use Rattle.tell.proofs.tell_request.Statement.{statement}

@@ -1,4 +1,5 @@
--- `certs::request::parse_tls_handshake_certificaterequest` meets its contract: the long form, else the short one, else Complete. Assumes nothing.
+-- `certs::request::parse_tls_handshake_certificaterequest` meets its contract: the long form, else the short one, else Complete. Assumes
+-- nothing.
 use Rattle.refusal.proofs.Told.{case}
 use Rattle.certs.specs.Request.{certificateRequest, requestSays}
 use borrow.Author.Needs.{needs}

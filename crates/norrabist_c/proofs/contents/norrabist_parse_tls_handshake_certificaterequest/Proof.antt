@@ -1,4 +1,5 @@
--- `norrabist_c::norrabist_parse_tls_handshake_certificaterequest` meets its contract: the refusal of the reader, or the numbers of its message. Assumes nothing.
+-- `norrabist_c::norrabist_parse_tls_handshake_certificaterequest` meets its contract: the refusal of the reader, or the numbers of its
+-- message. Assumes nothing.
 use Rattle.refusal.proofs.Told.{case}
 use Rattle.certs.specs.Request.{requestSays}
 use Rattle.norrabist_c.proofs.Exports.{none-told, all-told}

@@ -1,4 +1,5 @@
--- `norrabist_c::norrabist_parse_tls_message_handshake` meets its contract: the refusal of the head or of the message, or both told. Assumes nothing.
+-- `norrabist_c::norrabist_parse_tls_message_handshake` meets its contract: the refusal of the head or of the message, or both told. Assumes
+-- nothing.
 use Rattle.refusal.proofs.Told.{case}
 use Rattle.message.specs.Messages.{messageSays}
 use Rattle.envelope.specs.Heads.{headSays}

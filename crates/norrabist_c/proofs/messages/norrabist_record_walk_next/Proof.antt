@@ -1,4 +1,5 @@
--- `norrabist_c::norrabist_record_walk_next` meets its contract: NoSuch, or where the walk stands and the message that it met. Assumes nothing.
+-- `norrabist_c::norrabist_record_walk_next` meets its contract: NoSuch, or where the walk stands and the message that it met. Assumes
+-- nothing.
 use Rattle.refusal.proofs.Told.{case}
 use Rattle.message.specs.Messages.{messageSays}
 use Rattle.norrabist_c.proofs.Exports.{as-told, none-told, next-not, next-told}

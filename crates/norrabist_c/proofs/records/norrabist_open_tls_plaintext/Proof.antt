@@ -1,4 +1,5 @@
--- `norrabist_c::norrabist_open_tls_plaintext` meets its contract: the refusal of the reader, or the numbers of record and message. Assumes nothing.
+-- `norrabist_c::norrabist_open_tls_plaintext` meets its contract: the refusal of the reader, or the numbers of record and message. Assumes
+-- nothing.
 use Rattle.refusal.proofs.Told.{case}
 use Rattle.plaintext.specs.Plaintext.{openedSays}
 use Rattle.norrabist_c.proofs.Exports.{none-told, all-told}

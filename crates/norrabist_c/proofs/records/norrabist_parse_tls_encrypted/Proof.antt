@@ -1,4 +1,5 @@
--- `norrabist_c::norrabist_parse_tls_encrypted` meets its contract: the refusal of the reader, or the numbers of what it read. Assumes nothing.
+-- `norrabist_c::norrabist_parse_tls_encrypted` meets its contract: the refusal of the reader, or the numbers of what it read. Assumes
+-- nothing.
 use Rattle.refusal.proofs.Told.{case}
 use Rattle.record.specs.Records.{encryptedSays}
 use Rattle.norrabist_c.proofs.Exports.{none-told, all-told}

@@ -1,4 +1,5 @@
--- `norrabist_c::norrabist_gen_tls_messagehandshake` meets its contract: numbers that tell of no message, or what the writer of the message says. Assumes nothing.
+-- `norrabist_c::norrabist_gen_tls_messagehandshake` meets its contract: numbers that tell of no message, or what the writer of the message
+-- says. Assumes nothing.
 use Rattle.refusal.proofs.Told.{case}
 use Rattle.message.specs.Messages.{messageSays}
 use Rattle.wire.specs.Puts.{writeSays}

@@ -1,4 +1,5 @@
--- `server::tlsv12::extensions` meets its contract: with extensions that of `opt_length_data`, without them nothing is looked at. Assumes nothing.
+-- `server::tlsv12::extensions` meets its contract: with extensions that of `opt_length_data`, without them nothing is looked at. Assumes
+-- nothing.
 use borrow.Author.Needs.{needs}
 use Rattle.server.proofs.tlsv12.extensions.Statement.{statement}
 use Rattle.server.proofs.tlsv12.extensions.Tie as tie

@@ -1,4 +1,5 @@
--- `wire::number::number_of` meets its contract: after k turns n is the number of the first k bytes, and below 256 to the k. Assumes nothing.
+-- `wire::number::number_of` meets its contract: after k turns n is the number of the first k bytes, and below 256 to the k. Assumes
+-- nothing.
 use Prim.Native.Nat.{_+_, _-_, _^_, _≤_, _<_}
 use mathlib.Core.Path.{_≡_, refl}
 use native.Mathlib.Numerals.{add-one}

@@ -1,4 +1,5 @@
--- `certs::request::TlsCertificateRequestContents::sig_count` meets its contract, by those of `opt_part_of` and `number_count`. Assumes nothing.
+-- `certs::request::TlsCertificateRequestContents::sig_count` meets its contract, by those of `opt_part_of` and `number_count`. Assumes
+-- nothing.
 use borrow.Author.Needs.{needs}
 use Rattle.certs.proofs.request.TlsCertificateRequestContents.sig_count.Statement.{statement}
 use Rattle.certs.proofs.request.TlsCertificateRequestContents.sig_count.Tie as tie

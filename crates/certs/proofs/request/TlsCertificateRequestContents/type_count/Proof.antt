@@ -1,4 +1,5 @@
--- `certs::request::TlsCertificateRequestContents::type_count` meets its contract, by those of `part_of` and `number_count`. Assumes nothing.
+-- `certs::request::TlsCertificateRequestContents::type_count` meets its contract, by those of `part_of` and `number_count`. Assumes
+-- nothing.
 use borrow.Author.Needs.{needs}
 use Rattle.certs.proofs.request.TlsCertificateRequestContents.type_count.Statement.{statement}
 use Rattle.certs.proofs.request.TlsCertificateRequestContents.type_count.Tie as tie
