@@ -1,7 +1,7 @@
 // The certificates of a chain one after the other, by a reader that holds the lent list and its place. The prover covers no function over
 // such a struct: each is thin, proved by hand, and leaves the work to a function of plain parameters.
 ghost use mathlib.Core.Path.{_≡_};
-ghost use Rattle.chain.specs.Chain.{atFront, movedOn, pastCert};
+ghost use Rattle.chain.specs.Chain.{atFront, certOf, movedOn, pastCert};
 ghost use Rattle.field.specs.Fields.{sized};
 ghost use Rattle.list.specs.Items.{itemFrom, items, place};
 ghost use Rattle.wire.specs.Parts.{partSays};
@@ -41,7 +41,7 @@ impl<'a> TlsCertificateReader<'a> {
 
     // The certificate at the reader's place; past the last one NoSuch.
     pub fn cert(self) -> PartAnswer
-        ensures { λ r. ⌜ partSays r ≡ itemFrom (sized 3) (now (self .entry .list)) (self .entry .at) ⌝ }
+        ensures { λ r. ⌜ partSays r ≡ certOf (self .entry) ⌝ }
     {
         cert_in(self.list, self.at)
     }

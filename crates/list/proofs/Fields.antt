@@ -1,5 +1,5 @@
 -- The walk over the items of a field: a step finds an item of at least a byte. Assumes nothing.
-use Prim.Native.Nat.{ℕ, _≤_}
+use Prim.Native.Nat.{ℕ, suc, _≤_}
 use mathlib.Core.Path.{_≡_}
 use mathlib.Core.List.{List}
 use native.Mathlib.Omega.{arith}
@@ -11,8 +11,8 @@ use Rattle.refusal.specs.declared.Refusal.{Refusal}
 use Rattle.wire.specs.declared.view.Part.{Part}
 use Rattle.field.specs.Fields.{Field, step}
 use Rattle.field.proofs.Rules.{least, step-in}
-use Rattle.list.specs.Items.{itemFrom, place}
-use Rattle.list.proofs.Walk.{Moves, rest, got, none, first}
+use Rattle.list.specs.Items.{items, itemFrom, place}
+use Rattle.list.proofs.Walk.{Moves, rest, rest-all, got, none, first, go-on}
 
 abbrev pub left : Field → List ℕ → ℕ → List Part
 left f s at = rest (step f s) (λ (p : Part). p .next) (length s) at
@@ -33,3 +33,16 @@ item-none f s at e = none (step f s at) e
 pub item-first : (f : Field) → 1 ≤ least f → (s : List ℕ) (at : ℕ) → place 0 (left f s at) ≡ itemFrom f s at
 unfolding itemFrom
 item-first f one s at = first (by-steps f one s) at
+
+-- all items are what is left at the front
+pub all-left : (f : Field) (s : List ℕ) → items f s ≡ left f s 0
+all-left f s = rest-all (step f s) (λ (p : Part). p .next) (length s)
+
+-- a walk begins with the first item, and goes on from the place handed out
+module _ (f : Field) (one : 1 ≤ least f) (s : List ℕ) where
+  pub begins : place 0 (items f s) ≡ itemFrom f s 0
+  begins = rw (all-left f s) (item-first f one s 0)
+
+  pub goes-on : (n : ℕ) (p : Part) → place n (items f s) ≡ accepted p → place (suc n) (items f s) ≡ itemFrom f s (p .next)
+  unfolding itemFrom
+  goes-on n p e = rw (all-left f s) (go-on (by-steps f one s) n 0 (rw (all-left f s) at e))

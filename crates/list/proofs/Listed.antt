@@ -15,13 +15,10 @@ use Rattle.field.specs.Fields.{Field, step}
 use Rattle.field.proofs.Rules.{least, step-in}
 use Rattle.field.specs.Standing.{fieldBytes, NoneAt}
 use Rattle.field.proofs.Steps.{step-of, left-of, past-in, view-of, step-back, Found}
-use Rattle.list.specs.Items.{items, itemFrom, place}
+use Rattle.list.specs.Items.{items}
 use Rattle.list.specs.Listing.{EachObeys, joinItems, Holds, standing, bytesHanded, ByItems}
-use Rattle.list.proofs.Walk.{rest-on, rest-end, rest-all, go-on, place-below, place-past}
-use Rattle.list.proofs.Fields.{left, by-steps, item-first}
-
-all-left : (f : Field) (s : List ℕ) → items f s ≡ left f s 0
-all-left f s = rest-all (step f s) (λ (p : Part). p .next) (length s)
+use Rattle.list.proofs.Walk.{rest-on, rest-end, place-below, place-past}
+use Rattle.list.proofs.Fields.{left, by-steps, all-left, begins, goes-on}
 
 module _ (f : Field) (one : 1 ≤ least f) (s : List ℕ) (b : Bytes s) where
   -- no item is found where none stands
@@ -99,12 +96,5 @@ module _ (f : Field) (one : 1 ≤ least f) (s : List ℕ) (b : Bytes s) where
       let d : joinItems f xs ++ r ≡ joinItems f xs ++ t = sym (x .whole) ∙ y .whole ∙ rw e in
       (e, sym (drop-at (joinItems f xs) r _ refl) ∙ ap (drop (length (joinItems f xs))) d ∙ drop-at (joinItems f xs) t _ refl)
 
-  begins : place 0 (items f s) ≡ itemFrom f s 0
-  begins = rw (all-left f s) (item-first f one s 0)
-
-  goes-on : (n : ℕ) (p : Part) → place n (items f s) ≡ accepted p → place (suc n) (items f s) ≡ itemFrom f s (p .next)
-  unfolding itemFrom
-  goes-on n p e = rw (all-left f s) (go-on (by-steps f one s) n 0 (rw (all-left f s) at e))
-
 pub by-items : (f : Field) → 1 ≤ least f → (s : List ℕ) → Bytes s → ByItems f s
-by-items f one s b = record { holds = holds f one s b; hands = hands f one s b; only = only f one s b; below = λ n. place-below n (items f s); past = λ n. place-past n (items f s); begins = begins f one s b; goesOn = goes-on f one s b }
+by-items f one s b = record { holds = holds f one s b; hands = hands f one s b; only = only f one s b; below = λ n. place-below n (items f s); past = λ n. place-past n (items f s); begins = begins f one s; goesOn = goes-on f one s }
