@@ -4,13 +4,14 @@ use Prim.Native.Nat.{ℕ}
 use mathlib.Core.Path.{_≡_, refl, _∙_}
 use mathlib.Core.List.{List}
 use native.Mathlib.Omega.{arith}
-use Rattle.refusal.specs.Answers.{Answer, accepted, refused, TellSame}
+use Rattle.refusal.specs.Answers.{Answer, accepted, refused, OneResult}
 use Rattle.refusal.proofs.Told.{tells-all}
 use Rattle.wire.specs.Numbers.{Bytes}
 use Rattle.field.specs.Fields.{fixed}
 use Rattle.field.proofs.Rules.{fixed-in}
 use Rattle.field.proofs.Steps.{step-lacks}
-use Rattle.grammar.proofs.Forms.{Lawful, by-split}
+use Rattle.grammar.specs.Lawful.{Lawful}
+use Rattle.grammar.proofs.Forms.{by-split}
 use Rattle.body.specs.Retry.{retry, retrySays}
 use Rattle.body.specs.Ticket.{ticket, ticketSays}
 use Rattle.body.specs.NextProtocol.{nextProtocol, nextProtocolSays}
@@ -55,7 +56,7 @@ retry-home : (a : HelloRetryRequestAnswer) → retry-back (retrySays a) ≡ a
 retry-home (HelloRetryRequestAnswer.Refused r) = refl
 retry-home (HelloRetryRequestAnswer.Got a) = refl
 
-pub one-retry : (x y : HelloRetryRequestAnswer) → TellSame (retrySays x) (retrySays y) → x ≡ y
+pub one-retry : OneResult retrySays
 one-retry = tells-all retrySays retry-back retry-home
 
 abbrev ticket-back : Answer TlsNewSessionTicketContent → NewSessionTicketAnswer
@@ -66,7 +67,7 @@ ticket-home : (a : NewSessionTicketAnswer) → ticket-back (ticketSays a) ≡ a
 ticket-home (NewSessionTicketAnswer.Refused r) = refl
 ticket-home (NewSessionTicketAnswer.Got a) = refl
 
-pub one-ticket : (x y : NewSessionTicketAnswer) → TellSame (ticketSays x) (ticketSays y) → x ≡ y
+pub one-ticket : OneResult ticketSays
 one-ticket = tells-all ticketSays ticket-back ticket-home
 
 abbrev next-protocol-back : Answer TlsNextProtocolContent → NextProtocolAnswer
@@ -77,5 +78,5 @@ next-protocol-home : (a : NextProtocolAnswer) → next-protocol-back (nextProtoc
 next-protocol-home (NextProtocolAnswer.Refused r) = refl
 next-protocol-home (NextProtocolAnswer.Got a) = refl
 
-pub one-next-protocol : (x y : NextProtocolAnswer) → TellSame (nextProtocolSays x) (nextProtocolSays y) → x ≡ y
+pub one-next-protocol : OneResult nextProtocolSays
 one-next-protocol = tells-all nextProtocolSays next-protocol-back next-protocol-home

@@ -3,10 +3,11 @@
 use Prim.Native.Nat.{ℕ}
 use mathlib.Core.Path.{_≡_, refl}
 use mathlib.Core.List.{List}
-use Rattle.refusal.specs.Answers.{Answer, accepted, refused, TellSame}
+use Rattle.refusal.specs.Answers.{Answer, accepted, refused, OneResult}
 use Rattle.refusal.proofs.Told.{tells-all}
 use Rattle.grammar.specs.Demand3.{BySplit}
-use Rattle.grammar.proofs.Forms.{Lawful, by-split}
+use Rattle.grammar.specs.Lawful.{Lawful}
+use Rattle.grammar.proofs.Forms.{by-split}
 use Rattle.certs.specs.Certificate.{certificate, certificateSays}
 use Rattle.certs.specs.Request.{long, short, certificateRequest, requestSays}
 use Rattle.certs.specs.Status.{status, statusSays}
@@ -56,7 +57,7 @@ certificate-home : (a : CertificateAnswer) → certificate-back (certificateSays
 certificate-home (CertificateAnswer.Refused r) = refl
 certificate-home (CertificateAnswer.Got a) = refl
 
-pub one-certificate : (x y : CertificateAnswer) → TellSame (certificateSays x) (certificateSays y) → x ≡ y
+pub one-certificate : OneResult certificateSays
 one-certificate = tells-all certificateSays certificate-back certificate-home
 
 abbrev request-back : Answer TlsCertificateRequestContents → CertificateRequestAnswer
@@ -67,7 +68,7 @@ request-home : (a : CertificateRequestAnswer) → request-back (requestSays a) �
 request-home (CertificateRequestAnswer.Refused r) = refl
 request-home (CertificateRequestAnswer.Got a) = refl
 
-pub one-request : (x y : CertificateRequestAnswer) → TellSame (requestSays x) (requestSays y) → x ≡ y
+pub one-request : OneResult requestSays
 one-request = tells-all requestSays request-back request-home
 
 abbrev status-back : Answer TlsCertificateStatusContents → CertificateStatusAnswer
@@ -78,5 +79,5 @@ status-home : (a : CertificateStatusAnswer) → status-back (statusSays a) ≡ a
 status-home (CertificateStatusAnswer.Refused r) = refl
 status-home (CertificateStatusAnswer.Got a) = refl
 
-pub one-status : (x y : CertificateStatusAnswer) → TellSame (statusSays x) (statusSays y) → x ≡ y
+pub one-status : OneResult statusSays
 one-status = tells-all statusSays status-back status-home

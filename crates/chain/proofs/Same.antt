@@ -11,7 +11,7 @@ use Rattle.refusal.specs.declared.Reason.the-variants.{NoSuch}
 use Rattle.refusal.specs.declared.Refusal.{Refusal}
 use Rattle.wire.specs.declared.view.Part.{Part}
 use Rattle.field.specs.Fields.{sized}
-use Rattle.field.proofs.Rules.{least}
+use Rattle.field.specs.Standing.{least}
 use Rattle.list.specs.Items.{itemFrom, items, place}
 use Rattle.list.proofs.Walk.{none-after}
 use Rattle.list.proofs.Fields.{item-none, begins, goes-on}

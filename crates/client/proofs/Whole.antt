@@ -1,9 +1,10 @@
 -- Demand 3, its reading half, of the ClientHello, an instance of the one theorem; and equal numbers and values mean equal answers.
 -- Assumes nothing.
 use mathlib.Core.Path.{_≡_, refl}
-use Rattle.refusal.specs.Answers.{Answer, accepted, refused, TellSame}
+use Rattle.refusal.specs.Answers.{Answer, accepted, refused, OneResult}
 use Rattle.refusal.proofs.Told.{tells-all}
-use Rattle.grammar.proofs.Forms.{Lawful, by-split}
+use Rattle.grammar.specs.Lawful.{Lawful}
+use Rattle.grammar.proofs.Forms.{by-split}
 use Rattle.client.specs.Client.{client, clientSays}
 use Rattle.client.specs.Demand3.{Demand3}
 use Rattle.client.specs.declared.TlsClientHelloContents.{TlsClientHelloContents}
@@ -24,5 +25,5 @@ home : (a : ClientHelloAnswer) → back (clientSays a) ≡ a
 home (Refused r) = refl
 home (Got a) = refl
 
-pub one-client : (x y : ClientHelloAnswer) → TellSame (clientSays x) (clientSays y) → x ≡ y
+pub one-client : OneResult clientSays
 one-client = tells-all clientSays back home

@@ -2,7 +2,7 @@
 use Prim.Native.Nat.{ℕ}
 use mathlib.Core.List.{List}
 use lib.ListN.{length}
-use lib.Dec.{leb}
+use lib.Dec.{eqb, leb}
 use Rattle.refusal.specs.Answers.{Answer, accepted, refused}
 use Rattle.wire.specs.Parts.{pick}
 use Rattle.wire.specs.Numbers.{be}
@@ -27,6 +27,10 @@ abbrev pub clientSays : ClientHelloAnswer → Answer TlsClientHelloContents
 clientSays (Refused r) = refused r
 clientSays (Got c) = accepted c
 
--- gmt_unix_time: the first four bytes of the random, or 0 where there are not as many
+-- tls-parser's answer: 0 unless the random has four bytes, since it converts the whole random to a number of four
 abbrev pub randTime : List ℕ → ℕ
-randTime random = pick (leb 4 (length random)) (be 4 random 0) 0
+randTime random = pick (eqb (length random) 4) (be 4 random 0) 0
+
+-- gmt_unix_time, RFC 5246 7.4.1.2: the first four bytes of the random, or 0 where there are not as many
+abbrev pub gmtUnixTime : List ℕ → ℕ
+gmtUnixTime random = pick (leb 4 (length random)) (be 4 random 0) 0

@@ -2,8 +2,9 @@
 ghost use mathlib.Core.Path.{_≡_};
 ghost use lib.ListN.{drop, length};
 ghost use Rattle.field.specs.Fields.{Field};
+ghost use Rattle.grammar.specs.Demand3.{BySplit};
 ghost use Rattle.grammar.specs.Forms.{reading};
-ghost use Rattle.client.specs.Client.{client, clientSays, randTime};
+ghost use Rattle.client.specs.Client.{client, clientSays, gmtUnixTime, randTime};
 ghost use Rattle.list.specs.Items.{items, numberPlace};
 ghost use Rattle.wire.specs.Numbers.{numberSays};
 ghost use Rattle.wire.specs.Parts.{optPartOf, partOf};
@@ -34,6 +35,7 @@ pub enum ClientHelloAnswer {
 
 pub fn parse_tls_handshake_client_hello(i: &[u8]) -> ClientHelloAnswer
     ensures { λ r. ⌜ clientSays r ≡ reading client (now (i .entry)) ⌝ }
+    ensures { λ _. ⌜ BySplit client (now (i .entry)) ⌝ }
 {
     let start = match hello::parse_start(i) {
         StartAnswer::Refused(r) => {
@@ -84,9 +86,20 @@ impl TlsClientHelloContents {
         wire::view::part_of(body, self.random)
     }
 
-    // The first four bytes of the random, gmt_unix_time; 0 where there are not as many.
+    // The number of a random of four bytes; of any other, and so of every hello that is read, 0.
     pub fn rand_time(self, body: &[u8]) -> u32
         ensures { λ r. ⌜ r ≡ randTime (partOf (now (body .entry)) (self .random)) ⌝ }
+    {
+        let random = self.random(body);
+        if random.len() != 4 {
+            return 0;
+        }
+        self.gmt_unix_time(body)
+    }
+
+    // The first four bytes of the random (RFC 5246 7.4.1.2); 0 where there are not as many.
+    pub fn gmt_unix_time(self, body: &[u8]) -> u32
+        ensures { λ r. ⌜ r ≡ gmtUnixTime (partOf (now (body .entry)) (self .random)) ⌝ }
     {
         let random = self.random(body);
         match wire::number::parse_be(random, 0, Width::Four) {

@@ -1,6 +1,6 @@
 -- Equal numbers and values mean equal answers of the head's reader. Assumes nothing.
 use mathlib.Core.Path.{_≡_, refl}
-use Rattle.refusal.specs.Answers.{Answer, accepted, refused, TellSame}
+use Rattle.refusal.specs.Answers.{Answer, accepted, refused, OneResult}
 use Rattle.refusal.proofs.Told.{tells-all}
 use Rattle.envelope.specs.Heads.{headSays}
 use Rattle.envelope.specs.declared.TlsMessageHead.{TlsMessageHead}
@@ -15,5 +15,5 @@ head-home : (a : HeadAnswer) → head-back (headSays a) ≡ a
 head-home (Refused r) = refl
 head-home (Got h) = refl
 
-pub one-head : (x y : HeadAnswer) → TellSame (headSays x) (headSays y) → x ≡ y
+pub one-head : OneResult headSays
 one-head = tells-all headSays head-back head-home

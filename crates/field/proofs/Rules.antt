@@ -18,6 +18,7 @@ use Rattle.wire.specs.declared.number.Number.{Number}
 use Rattle.wire.proofs.Parts.{found, fits, part-in, part-out}
 use Rattle.wire.proofs.Numbers.{number-is, number-short}
 use Rattle.field.specs.Fields.{Field, fixed, counted, Rule, ruled, step}
+use Rattle.field.specs.Standing.{least}
 
 pub ruled-accepted : (r : Rule) (s : List ℕ) (at n : ℕ) {q : Part} → ruled r s at n ≡ accepted q → (r .allows n ≡ true) × (partAt (r .past) s at n ≡ accepted q)
 unfolding ruled
@@ -35,11 +36,6 @@ ruled-refused r s at n {x} e = go (r .allows n) refl
     go : (t : Bool) → r .allows n ≡ t → ((r .allows n ≡ false) × (x ≡ refusal (r .broken) at 0)) ⊎ ((r .allows n ≡ true) × (partAt (r .past) s at n ≡ refused x))
     go true a = inr (a, rw a at e)
     go false a = inl (a, let d = rw a at e in cc)
-
--- the bytes that a field takes at least
-abbrev pub least : Field → ℕ
-least (fixed n) = n
-least (counted w r) = w
 
 -- where the part of a counted field lies, and that its length is allowed
 pub record Lies (w : ℕ) (r : Rule) (s : List ℕ) (at : ℕ) (p : Part) : Type 0 where

@@ -24,6 +24,11 @@ abbrev pub Obeys : Field → List ℕ → Type 0
 Obeys (fixed n) p = length p ≡ n
 Obeys (counted w r) p = (length p < 256 ^ w) × (r .allows (length p) ≡ true)
 
+-- the bytes that a field takes at least
+abbrev pub least : Field → ℕ
+least (fixed n) = n
+least (counted w r) = w
+
 -- where a field's part begins, for a field that begins at a place
 abbrev pub placeOf : Field → ℕ → ℕ
 placeOf (fixed n) at = at

@@ -9,21 +9,15 @@ use Rattle.refusal.specs.Answers.{Answer, accepted, refused}
 use Rattle.refusal.specs.declared.Refusal.{Refusal}
 use Rattle.refusal.proofs.Then.{not-both, then-accepted, then-refused}
 use Rattle.wire.specs.Numbers.{Bytes}
-use Rattle.wire.specs.declared.view.OptView.{OptView}
-use Rattle.wire.specs.declared.view.OptView.the-variants.{Absent}
 use Rattle.field.specs.Fields.{Field}
 use Rattle.grammar.specs.Grammars.{Grammar, Handed}
 use Rattle.grammar.specs.Splits.{Pieces, Split, handedOf, FirstLacks}
 use Rattle.grammar.specs.Reading.{fieldsAt, lastAt, withLast, read}
-use Rattle.grammar.specs.Forms.{Form, Outs, outs, valueOf, reading, pieces, views}
-use Rattle.grammar.specs.Demand3.{InRow, BySplit}
+use Rattle.grammar.specs.Forms.{Form, outs, valueOf, reading, pieces, views}
+use Rattle.grammar.specs.Lawful.{ifAny, Lawful}
+use Rattle.grammar.specs.Demand3.{InRow, BySplit, EveryForm}
 use Rattle.grammar.proofs.Whole.{piecesOf, whichever, accepts, splits, only, order, refuses, lacks}
-use Rattle.grammar.proofs.Outs.{AllSuit, all-named, all-in-row}
-
--- the block that a grammar may hand out: one without a block hands out none
-abbrev pub ifAny : Option Field → OptView → OptView
-ifAny none e = Absent
-ifAny (some f) e = e
+use Rattle.grammar.proofs.Outs.{all-named, all-in-row}
 
 last-any : (b : Option Field) (s : List ℕ) (at : ℕ) → ifAny b (lastAt b s at .view) ≡ lastAt b s at .view
 last-any none s at = refl
@@ -35,13 +29,6 @@ read-any g s h e =
     let t = then-accepted (fieldsAt (g .fields) s 0) (λ q. accepted (withLast g (q .0) (lastAt (g .block) s (q .1)))) e in
     let d : withLast g (t .0 .0) (lastAt (g .block) s (t .0 .1)) ≡ h = cc (t .2) in
     rw (← d) (last-any (g .block) s (t .0 .1))
-
--- a form is lawful where a number is of as many bytes as its field, and a value tells what it was made of
-pub record Lawful {C : Type 0} (k : Form C) : Type 0 where
-  pub suits : AllSuit (k .grammar .fields) (k .how)
-  pub handed : (o : Outs (k .grammar .fields) (k .how)) (e : OptView) (t : ℕ) → k .handed (k .value o e t) ≡ o
-  pub block : (o : Outs (k .grammar .fields) (k .how)) (e : OptView) (t : ℕ) → k .block (k .value o (ifAny (k .grammar .block) e) t) ≡ ifAny (k .grammar .block) e
-  pub tail : (o : Outs (k .grammar .fields) (k .how)) (e : OptView) (t : ℕ) → k .tail (k .value o e t) ≡ t
 
 module _ {C : Type 0} (k : Form C) (l : Lawful k) (s : List ℕ) (b : Bytes s) where
   -- an accepted value is made of what was handed out
@@ -90,7 +77,7 @@ module _ {C : Type 0} (k : Form C) (l : Lawful k) (s : List ℕ) (b : Bytes s) w
       go (inr (h, x, z)) = absurd (not-both refl z)
 
 -- demand 3, its reading half
-pub by-split : {C : Type 0} (k : Form C) → Lawful k → (s : List ℕ) → Bytes s → BySplit k s
+pub by-split : {C : Type 0} → EveryForm C
 by-split k l s b = record {
   whichever = whichever (k .grammar) s b;
   accepts = value-accepts k l s b;

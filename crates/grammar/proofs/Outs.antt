@@ -19,18 +19,9 @@ use Rattle.field.specs.Standing.{Obeys}
 use Rattle.grammar.specs.Grammars.{Each}
 use Rattle.grammar.specs.Splits.{AllObey}
 use Rattle.grammar.specs.Forms.{How, asView, asPart, asNumber, absentIfEmpty, out, named, ifThere, seen, outs, allNamed, allSeen}
+use Rattle.grammar.specs.Lawful.{Suits, AllSuit}
 use Rattle.grammar.specs.Demand3.{InRow}
 use Rattle.grammar.proofs.Whole.{partsOf, InOrder}
-
--- a field of w bytes alone is handed out as a number of w bytes
-abbrev pub Suits : Field → How → Type 0
-Suits f asView = Unit
-Suits f asPart = Unit
-Suits f (asNumber w) = f ≡ fixed w
-
-abbrev pub AllSuit : (fs : List Field) → Each How fs → Type 0
-AllSuit [] ms = Unit
-AllSuit (f ∷ fs) (m, ms) = Suits f m × AllSuit fs ms
 
 no-bytes : (w n : ℕ) → _≡_ {A = ℕ} 0 w → bytesOf w n ≡ []
 unfolding bytesOf

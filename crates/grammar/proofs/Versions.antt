@@ -2,21 +2,19 @@
 use Prim.Native.Nat.{ℕ, _≤_}
 use mathlib.Core.Path.{_≡_, _∙_}
 use mathlib.Core.List.{List}
-use mathlib.Core.Option.{some}
 use native.Mathlib.Omega.{arith}
 use native.Mathlib.Nat.{sub-zero}
 use lib.ListN.{length}
 use Rattle.refusal.specs.Answers.{refused}
 use Rattle.refusal.specs.declared.Reason.the-variants.{Incomplete}
 use Rattle.refusal.specs.declared.Refusal.{Refusal}
-use Rattle.wire.specs.Numbers.{Bytes, be}
+use Rattle.wire.specs.Numbers.{be}
 use Rattle.wire.proofs.Parts.{part-in, part-out}
 use Rattle.wire.proofs.Numbers.{number-got, number-no}
 use Rattle.field.specs.Standing.{TooFew}
-use Rattle.grammar.specs.Forms.{Form}
 use Rattle.grammar.specs.Versions.{Listing, ifListed, byVersion}
-use Rattle.grammar.specs.Demand3.{ByVersion}
-use Rattle.grammar.proofs.Forms.{Lawful, by-split}
+use Rattle.grammar.specs.Demand3.{EveryListing}
+use Rattle.grammar.proofs.Forms.{by-split}
 
 module _ {C : Type 0} (forms : Listing C) (s : List ℕ) where
   -- where there is a version, the listing decides
@@ -29,7 +27,7 @@ module _ {C : Type 0} (forms : Listing C) (s : List ℕ) where
   versionless r (h, e) = rw (number-no 2 s 0 (part-out Incomplete s 0 2 (omega arith)), e, sub-zero)
 
 -- demand 3, its reading half
-pub by-version : {C : Type 0} (forms : Listing C) → ((v : ℕ) (k : Form C) → forms v ≡ some k → Lawful k) → (s : List ℕ) → Bytes s → ByVersion forms s
+pub by-version : {C : Type 0} → EveryListing C
 by-version forms l s b = record {
   listed = λ k (h, f). (decided forms s h ∙ rw f, by-split k (l (be 2 s 0) k f) s b);
   short = versionless forms s;

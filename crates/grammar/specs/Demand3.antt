@@ -4,17 +4,18 @@ use Prim.Native.Nat.{ℕ, _+_, _≤_}
 use mathlib.Core.Path.{_≡_}
 use mathlib.Core.Logic.{_⊎_}
 use mathlib.Core.List.{List, [], _∷_}
-use mathlib.Core.Option.{none}
+use mathlib.Core.Option.{none, some}
 use lib.ListN.{length}
 use Rattle.refusal.specs.Answers.{accepted, refused}
 use Rattle.refusal.specs.Refusals.{refusal}
 use Rattle.refusal.specs.declared.Reason.the-variants.{Incomplete, Tag}
 use Rattle.refusal.specs.declared.Refusal.{Refusal}
-use Rattle.wire.specs.Numbers.{be}
+use Rattle.wire.specs.Numbers.{Bytes, be}
 use Rattle.wire.specs.declared.view.View.{View}
 use Rattle.field.specs.Standing.{TooFew}
 use Rattle.grammar.specs.Splits.{Pieces, Split, handedOf, FirstLacks}
 use Rattle.grammar.specs.Forms.{Form, valueOf, reading, pieces, views}
+use Rattle.grammar.specs.Lawful.{Lawful}
 use Rattle.grammar.specs.Versions.{Listing, byVersion, Announces}
 
 -- views in a row: in order, without overlap, from a place on and before the tail
@@ -22,7 +23,7 @@ abbrev pub InRow : ℕ → List View → ℕ → Type 0
 InRow from [] tail = from ≤ tail
 InRow from (v ∷ vs) tail = (from ≤ v .start) × InRow (v .start + v .len) vs tail
 
--- the theorem, shown of every body of bytes, and of every form whose values tell what they were made of, by `proofs/Forms.antt`
+-- what is shown of a form and a body
 pub record BySplit {C : Type 0} (k : Form C) (body : List ℕ) : Type 0 where
   -- every body splits, or lacks a field
   pub whichever : ((x : Pieces (k .grammar)) × Split (k .grammar) body x) ⊎ ((r : Refusal) × FirstLacks (k .grammar .fields) 0 body r)
@@ -39,7 +40,11 @@ pub record BySplit {C : Type 0} (k : Form C) (body : List ℕ) : Type 0 where
   -- and a body is refused only for that
   pub lacks : (r : Refusal) → reading k body ≡ refused r → FirstLacks (k .grammar .fields) 0 body r
 
--- the same where the version announces the form, by `proofs/Versions.antt`: a body has a listed version, one that is not listed, or none
+-- the theorem: every lawful form of any contents, every body of bytes; shown by `proofs/Forms.antt`
+abbrev pub EveryForm : Type 0 → Type 0
+EveryForm C = (k : Form C) → Lawful k → (body : List ℕ) → Bytes body → BySplit k body
+
+-- the same where the version announces the form: a body has a listed version, one that is not listed, or none
 pub record ByVersion {C : Type 0} (forms : Listing C) (body : List ℕ) : Type 0 where
   -- a body whose version is listed is read by the form announced, of which the theorem holds
   pub listed : (k : Form C) → Announces forms body k → (byVersion forms body ≡ reading k body) × BySplit k body
@@ -47,3 +52,7 @@ pub record ByVersion {C : Type 0} (forms : Listing C) (body : List ℕ) : Type 0
   pub unlisted : 2 ≤ length body → forms (be 2 body 0) ≡ none → byVersion forms body ≡ refused (refusal Tag 0 0)
   -- one without a version is refused for it
   pub short : (r : Refusal) → TooFew Incomplete 2 0 body r → byVersion forms body ≡ refused r
+
+-- the theorem: every listing of lawful forms of any contents, every body of bytes; shown by `proofs/Versions.antt`
+abbrev pub EveryListing : Type 0 → Type 0
+EveryListing C = (forms : Listing C) → ((v : ℕ) (k : Form C) → forms v ≡ some k → Lawful k) → (body : List ℕ) → Bytes body → ByVersion forms body

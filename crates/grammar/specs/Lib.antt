@@ -4,4 +4,5 @@ pub mod Splits
 pub mod Reading
 pub mod Forms
 pub mod Versions
+pub mod Lawful
 pub mod Demand3

@@ -4,7 +4,7 @@ use Prim.Native.Nat.{ℕ}
 use mathlib.Core.Path.{_≡_, refl, ap, sym, _∙_}
 use mathlib.Core.Logic.{_⊎_, inl, inr}
 use mathlib.Core.List.{List, _++_}
-use Rattle.refusal.specs.Answers.{Answer, accepted, refused, then, TellSame}
+use Rattle.refusal.specs.Answers.{Answer, accepted, refused, then, OneResult}
 use Rattle.refusal.specs.declared.Refusal.{Refusal}
 use Rattle.refusal.proofs.Told.{tells-all}
 use Rattle.refusal.proofs.Then.{not-both, then-accepted, then-refused}
@@ -71,5 +71,5 @@ home : (a : StartAnswer) → back (startSays a) ≡ a
 home (Refused r) = refl
 home (Got a) = refl
 
-pub one-start : (x y : StartAnswer) → TellSame (startSays x) (startSays y) → x ≡ y
+pub one-start : OneResult startSays
 one-start = tells-all startSays back home

@@ -10,7 +10,8 @@ use Rattle.refusal.specs.declared.Reason.the-variants.{NoSuch}
 use Rattle.refusal.specs.declared.Refusal.{Refusal}
 use Rattle.wire.specs.declared.view.Part.{Part}
 use Rattle.field.specs.Fields.{Field, step}
-use Rattle.field.proofs.Rules.{least, step-in}
+use Rattle.field.specs.Standing.{least}
+use Rattle.field.proofs.Rules.{step-in}
 use Rattle.list.specs.Items.{items, itemFrom, place}
 use Rattle.list.proofs.Walk.{Moves, rest, rest-all, got, none, first, go-on}
 

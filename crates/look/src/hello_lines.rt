@@ -1,6 +1,5 @@
-// The hellos, and what asks for another. Each begins at `at` in the input.
+// The hellos, and what asks for another. Each lies where `body` says in the input `s`.
 use crate::lists;
-use crate::lists::Numbers;
 use crate::say;
 use norrabist::OptView;
 use norrabist::TlsClientHelloContents;
@@ -8,10 +7,11 @@ use norrabist::TlsHelloRetryRequestContents;
 use norrabist::TlsServerHelloContents;
 use norrabist::TlsServerHelloV13Draft18Contents;
 use norrabist::View;
+use norrabist::Width;
 
-fn present(v: View, at: usize, goes_on: bool) {
+fn present(v: View, goes_on: bool) {
     say::text(b"    extensions present ");
-    say::extent(say::past(at, v.start), v.len);
+    say::extent(v);
     if goes_on {
         say::text(b", and a tail follows\n");
     } else {
@@ -29,62 +29,62 @@ fn absent(goes_on: bool) {
 }
 
 // The end of a hello, whose tail is told behind it.
-fn extensions(ext: OptView, body: &[u8], tail: usize, at: usize) {
-    let goes_on = tail < body.len();
+fn extensions(ext: OptView, tail: usize, s: &[u8], body: View) {
+    let goes_on = tail < body.len;
     match ext {
-        OptView::Present(v) => present(v, at, goes_on),
+        OptView::Present(v) => present(capture::view_in(s, body, v), goes_on),
         OptView::Absent => absent(goes_on),
     }
 }
 
-pub fn client(c: TlsClientHelloContents, body: &[u8], at: usize) {
+pub(crate) fn client(c: TlsClientHelloContents, s: &[u8], body: View) {
     let random = c.random;
     let id = c.session_id;
     let ciphers = c.ciphers;
     let methods = c.comp;
     let ext = c.ext;
-    say::kind(b"ClientHello", body, at);
-    say::field(b"version", c.version(), 4);
-    say::part(b"random", at, random);
-    say::opt_part(b"session id", at, id);
-    say::part(b"ciphers", at, ciphers);
-    lists::say_numbers(Numbers::Ciphers(c), body);
-    say::part(b"methods", at, methods);
-    lists::say_numbers(Numbers::Methods(c), body);
-    extensions(ext, body, c.tail, at);
+    say::kind(b"ClientHello", body);
+    say::field(b"version", c.version() as usize, 4);
+    say::part(b"random", s, body, random);
+    say::opt_part(b"session id", s, body, id);
+    say::part(b"ciphers", s, body, ciphers);
+    lists::say_numbers(s, capture::view_in(s, body, ciphers), Width::Two, 4);
+    say::part(b"methods", s, body, methods);
+    lists::say_numbers(s, capture::view_in(s, body, methods), Width::One, 2);
+    extensions(ext, c.tail, s, body);
 }
 
-pub fn server(c: TlsServerHelloContents, body: &[u8], at: usize) {
+pub(crate) fn server(c: TlsServerHelloContents, s: &[u8], body: View) {
     let random = c.random;
     let id = c.session_id;
     let ext = c.ext;
-    say::kind(b"ServerHello", body, at);
-    say::field(b"version", c.version, 4);
-    say::part(b"random", at, random);
-    say::opt_part(b"session id", at, id);
-    say::field(b"cipher", c.cipher, 4);
-    say::field(b"compression", say::wide(c.compression), 2);
+    say::kind(b"ServerHello", body);
+    say::field(b"version", c.version as usize, 4);
+    say::part(b"random", s, body, random);
+    say::opt_part(b"session id", s, body, id);
+    say::field(b"cipher", c.cipher as usize, 4);
+    say::field(b"compression", c.compression as usize, 2);
     if c.version == 0x0300 {
         say::text(b"    extensions absent: never looked for at version 0300\n");
         return;
     }
-    extensions(ext, body, c.tail, at);
+    extensions(ext, c.tail, s, body);
 }
 
-pub fn draft18(c: TlsServerHelloV13Draft18Contents, body: &[u8], at: usize) {
+pub(crate) fn draft18(c: TlsServerHelloV13Draft18Contents, s: &[u8], body: View) {
     let random = c.random;
     let ext = c.ext;
-    say::kind(b"ServerHello of draft 18", body, at);
-    say::field(b"version", c.version, 4);
-    say::part(b"random", at, random);
-    say::field(b"cipher", c.cipher, 4);
-    extensions(ext, body, c.tail, at);
+    say::kind(b"ServerHello of draft 18", body);
+    say::field(b"version", c.version as usize, 4);
+    say::part(b"random", s, body, random);
+    say::field(b"cipher", c.cipher as usize, 4);
+    extensions(ext, c.tail, s, body);
 }
 
-pub fn retry(c: TlsHelloRetryRequestContents, body: &[u8], at: usize) {
+pub(crate) fn retry(c: TlsHelloRetryRequestContents, s: &[u8], body: View) {
     let ext = c.ext;
-    say::kind(b"HelloRetryRequest", body, at);
-    say::field(b"version", c.version, 4);
-    say::field(b"cipher", c.cipher, 4);
-    extensions(ext, body, c.tail, at);
+    say::kind(b"HelloRetryRequest", body);
+    say::field(b"version", c.version as usize, 4);
+    say::field(b"cipher", c.cipher as usize, 4);
+    extensions(ext, c.tail, s, body);
 }

@@ -7,13 +7,7 @@ use norrabist::RecordHeaderAnswer;
 use norrabist::Refusal;
 use norrabist::TlsRawRecord;
 use norrabist::TlsRecordHeader;
-
-// What was met so far, and where the next record begins.
-struct Seen {
-    at: usize,
-    records: usize,
-    messages: usize,
-}
+use norrabist::View;
 
 fn say_type(kind: u8) {
     match kind {
@@ -48,78 +42,52 @@ fn say_closed(r: Refusal) {
     say::refusal(r);
 }
 
-// Opens the record at the front of `rest`, which begins at `at`; how many messages it holds.
-fn say_opened(rest: &[u8], at: usize) -> usize {
-    match norrabist::parse_tls_plaintext(rest) {
-        PlaintextAnswer::Refused(r) => {
-            say_closed(r);
-            0
-        }
+// Opens the record that begins at `at`.
+fn say_opened(s: &[u8], at: usize, content: View) {
+    match norrabist::parse_tls_plaintext(norrabist::rest_of(s, at)) {
+        PlaintextAnswer::Refused(r) => say_closed(r),
         PlaintextAnswer::Got(p) => {
-            let view = p.msg;
             say::text(b"  ");
             say::count(p.count, b"message");
             say::text(b"\n");
-            messages::say_messages(
-                norrabist::part_of(rest, view),
-                p.count,
-                p.dropped,
-                say::past(at, view.start),
-            );
-            p.count
+            messages::say_messages(s, content, p.count, p.dropped);
         }
     }
 }
 
-// A whole record, at the front of `rest`.
-fn say_record(record: TlsRawRecord, rest: &[u8], seen: Seen) -> Seen {
-    let hdr = record.hdr;
-    let records = say::past(seen.records, 1);
+// A whole record, which begins at `at`.
+fn say_record(number: usize, at: usize, record: TlsRawRecord, s: &[u8]) {
     say::text(b"record ");
-    say::number(records);
+    say::number(number);
     say::text(b" at ");
-    say::number(seen.at);
+    say::number(at);
     say::text(b": ");
-    say_header(hdr);
-    let count = say_opened(rest, seen.at);
-    Seen {
-        at: say::past(seen.at, record.next),
-        records,
-        messages: say::past(seen.messages, count),
-    }
+    say_header(record.hdr);
+    say_opened(s, at, record.data);
 }
 
-// Every whole record. There are no more than bytes, and none behind the first that is refused.
-fn say_records(s: &[u8]) -> Seen {
-    let mut seen = Seen {
-        at: 0,
-        records: 0,
-        messages: 0,
-    };
-    for k in 0..s.len() {
-        let rest = norrabist::rest_of(s, seen.at);
-        match norrabist::parse_tls_raw_record(rest) {
-            RawRecordAnswer::Refused(_) => {
-                return seen;
-            }
-            RawRecordAnswer::Got(record) => {
-                seen = say_record(record, rest, seen);
-            }
+// As many records as were counted.
+fn say_records(s: &[u8], count: usize) {
+    let mut at: usize = 0;
+    for k in 0..count {
+        if let RawRecordAnswer::Got(record) = capture::record_from(s, at) {
+            say_record(k + 1, at, record, s);
+            at = record.next;
         }
     }
-    seen
 }
 
 // What lies behind the last whole record; nothing where there is nothing.
 fn say_left(rest: &[u8], at: usize) {
-    if rest.len() == 0 {
+    let len = rest.len();
+    if len == 0 {
         return;
     }
     let RawRecordAnswer::Refused(r) = norrabist::parse_tls_raw_record(rest) else {
         return;
     };
     say::text(b"left over ");
-    say::extent(at, rest.len());
+    say::extent(View { start: at, len });
     say::text(b", refused: ");
     say::refusal(r);
     if let RecordHeaderAnswer::Got(h) = norrabist::parse_tls_record_header(rest) {
@@ -129,17 +97,18 @@ fn say_left(rest: &[u8], at: usize) {
     say::text(b"  reading ends here\n");
 }
 
-pub fn look(s: &[u8]) {
+pub(crate) fn look(s: &[u8]) {
     if s.len() == 0 {
         say::text(b"no record: the input is empty\n");
     }
-    let seen = say_records(s);
-    let rest = norrabist::rest_of(s, seen.at);
-    say_left(rest, seen.at);
+    let all = capture::count_records(s);
+    say_records(s, all.records);
+    let rest = norrabist::rest_of(s, all.end);
+    say_left(rest, all.end);
     say::text(b"in all: ");
-    say::count(seen.records, b"record");
+    say::count(all.records, b"record");
     say::text(b", ");
-    say::count(seen.messages, b"message");
+    say::count(all.messages, b"message");
     say::text(b", ");
     say::count(rest.len(), b"byte");
     say::text(b" left over\n");

@@ -5,29 +5,20 @@ use norrabist::Reason;
 use norrabist::Refusal;
 use norrabist::View;
 
-pub fn text(t: &[u8]) {
+pub(crate) fn text(t: &[u8]) {
     io::write_all(STDOUT_FILENO, t);
 }
 
-pub fn number(n: usize) {
+pub(crate) fn number(n: usize) {
     io::print_decimal(STDOUT_FILENO, n as u64);
 }
 
-pub fn hex(n: usize, digits: usize) {
+pub(crate) fn hex(n: usize, digits: usize) {
     io::print_hex(STDOUT_FILENO, n as u64, digits);
 }
 
-pub fn wide(b: u8) -> u16 {
-    b as u16
-}
-
-// The place `by` bytes past `at`. Both are at most the input's length, so that the sum is small and does not wrap.
-pub fn past(at: usize, by: usize) -> usize {
-    std::num::wrapping_add_usize(at, by)
-}
-
 // So many of what `name` names, which takes an s where they are not one.
-pub fn count(n: usize, name: &[u8]) {
+pub(crate) fn count(n: usize, name: &[u8]) {
     number(n);
     text(b" ");
     text(name);
@@ -37,12 +28,12 @@ pub fn count(n: usize, name: &[u8]) {
     text(b"s");
 }
 
-// `len` bytes from a place on.
-pub fn extent(at: usize, len: usize) {
+// So many bytes, and where they begin.
+pub(crate) fn extent(v: View) {
     text(b"at ");
-    number(at);
+    number(v.start);
     text(b", ");
-    count(len, b"byte");
+    count(v.len, b"byte");
 }
 
 // The name in document 01's table.
@@ -65,7 +56,7 @@ fn reason(r: Refusal) {
 }
 
 // Ends its line.
-pub fn refusal(r: Refusal) {
+pub(crate) fn refusal(r: Refusal) {
     reason(r);
     text(b" (");
     number(norrabist::refusal_number(r) as usize);
@@ -73,27 +64,27 @@ pub fn refusal(r: Refusal) {
 }
 
 // A field of a message, in hex.
-pub fn field(name: &[u8], n: u16, digits: usize) {
+pub(crate) fn field(name: &[u8], n: usize, digits: usize) {
     text(b"    ");
     text(name);
     text(b" ");
-    hex(n as usize, digits);
+    hex(n, digits);
     text(b"\n");
 }
 
-// A part of a message whose body begins at `at`.
-pub fn part(name: &[u8], at: usize, v: View) {
+// A part of the body of a message.
+pub(crate) fn part(name: &[u8], s: &[u8], body: View, v: View) {
     text(b"    ");
     text(name);
     text(b" ");
-    extent(past(at, v.start), v.len);
+    extent(capture::view_in(s, body, v));
     text(b"\n");
 }
 
 // The same, of a part that may be missing.
-pub fn opt_part(name: &[u8], at: usize, v: OptView) {
+pub(crate) fn opt_part(name: &[u8], s: &[u8], body: View, v: OptView) {
     match v {
-        OptView::Present(p) => part(name, at, p),
+        OptView::Present(p) => part(name, s, body, p),
         OptView::Absent => {
             text(b"    ");
             text(name);
@@ -103,9 +94,9 @@ pub fn opt_part(name: &[u8], at: usize, v: OptView) {
 }
 
 // The kind of a message, behind its number and place.
-pub fn kind(name: &[u8], body: &[u8], at: usize) {
+pub(crate) fn kind(name: &[u8], body: View) {
     text(name);
     text(b", body ");
-    extent(at, body.len());
+    extent(body);
     text(b"\n");
 }

@@ -1,6 +1,6 @@
 -- Equal numbers and values mean equal answers of a reader of messages. Assumes nothing.
 use mathlib.Core.Path.{_≡_, refl}
-use Rattle.refusal.specs.Answers.{Answer, accepted, refused, TellSame}
+use Rattle.refusal.specs.Answers.{Answer, accepted, refused, OneResult}
 use Rattle.refusal.proofs.Told.{tells-all}
 use Rattle.message.specs.Messages.{messageSays}
 use Rattle.message.specs.declared.handshake.TlsMessageHandshake.{TlsMessageHandshake}
@@ -15,5 +15,5 @@ message-home : (a : MessageAnswer) → message-back (messageSays a) ≡ a
 message-home (Refused r) = refl
 message-home (Got a) = refl
 
-pub one-message : (x y : MessageAnswer) → TellSame (messageSays x) (messageSays y) → x ≡ y
+pub one-message : OneResult messageSays
 one-message = tells-all messageSays message-back message-home

@@ -1,6 +1,6 @@
 -- Equal numbers and values mean equal answers of the plaintext record's readers. Assumes nothing.
 use mathlib.Core.Path.{_≡_, refl}
-use Rattle.refusal.specs.Answers.{Answer, accepted, refused, TellSame}
+use Rattle.refusal.specs.Answers.{Answer, accepted, refused, OneResult}
 use Rattle.refusal.proofs.Told.{tells-all}
 use Rattle.plaintext.specs.Plaintext.{plaintextSays, openedSays}
 use Rattle.plaintext.specs.declared.TlsPlaintext.{TlsPlaintext}
@@ -16,7 +16,7 @@ plaintext-home : (a : PlaintextAnswer) → plaintext-back (plaintextSays a) ≡ 
 plaintext-home (PlaintextAnswer.Refused r) = refl
 plaintext-home (PlaintextAnswer.Got a) = refl
 
-pub one-plaintext : (x y : PlaintextAnswer) → TellSame (plaintextSays x) (plaintextSays y) → x ≡ y
+pub one-plaintext : OneResult plaintextSays
 one-plaintext = tells-all plaintextSays plaintext-back plaintext-home
 
 abbrev opened-back : Answer TlsPlaintextOpened → OpenedAnswer
@@ -27,5 +27,5 @@ opened-home : (a : OpenedAnswer) → opened-back (openedSays a) ≡ a
 opened-home (OpenedAnswer.Refused r) = refl
 opened-home (OpenedAnswer.Got a) = refl
 
-pub one-opened : (x y : OpenedAnswer) → TellSame (openedSays x) (openedSays y) → x ≡ y
+pub one-opened : OneResult openedSays
 one-opened = tells-all openedSays opened-back opened-home

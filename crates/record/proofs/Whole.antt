@@ -1,9 +1,10 @@
 -- What demand 3 says of the hellos, of records, an instance of the one theorem; and equal numbers and values mean equal answers. Assumes
 -- nothing.
 use mathlib.Core.Path.{_≡_, refl}
-use Rattle.refusal.specs.Answers.{Answer, accepted, refused, TellSame}
+use Rattle.refusal.specs.Answers.{Answer, accepted, refused, OneResult}
 use Rattle.refusal.proofs.Told.{tells-all}
-use Rattle.grammar.proofs.Forms.{Lawful, by-split}
+use Rattle.grammar.specs.Lawful.{Lawful}
+use Rattle.grammar.proofs.Forms.{by-split}
 use Rattle.record.specs.Records.{raw, headerSays, rawSays, encryptedSays}
 use Rattle.record.specs.Whole.{AllRecords}
 use Rattle.record.specs.declared.TlsRecordHeader.{TlsRecordHeader}
@@ -27,7 +28,7 @@ header-home : (a : RecordHeaderAnswer) → header-back (headerSays a) ≡ a
 header-home (RecordHeaderAnswer.Refused r) = refl
 header-home (RecordHeaderAnswer.Got a) = refl
 
-pub one-header : (x y : RecordHeaderAnswer) → TellSame (headerSays x) (headerSays y) → x ≡ y
+pub one-header : OneResult headerSays
 one-header = tells-all headerSays header-back header-home
 
 abbrev raw-back : Answer TlsRawRecord → RawRecordAnswer
@@ -38,7 +39,7 @@ raw-home : (a : RawRecordAnswer) → raw-back (rawSays a) ≡ a
 raw-home (RawRecordAnswer.Refused r) = refl
 raw-home (RawRecordAnswer.Got a) = refl
 
-pub one-raw : (x y : RawRecordAnswer) → TellSame (rawSays x) (rawSays y) → x ≡ y
+pub one-raw : OneResult rawSays
 one-raw = tells-all rawSays raw-back raw-home
 
 abbrev encrypted-back : Answer TlsEncrypted → EncryptedAnswer
@@ -49,5 +50,5 @@ encrypted-home : (a : EncryptedAnswer) → encrypted-back (encryptedSays a) ≡ 
 encrypted-home (EncryptedAnswer.Refused r) = refl
 encrypted-home (EncryptedAnswer.Got a) = refl
 
-pub one-encrypted : (x y : EncryptedAnswer) → TellSame (encryptedSays x) (encryptedSays y) → x ≡ y
+pub one-encrypted : OneResult encryptedSays
 one-encrypted = tells-all encryptedSays encrypted-back encrypted-home

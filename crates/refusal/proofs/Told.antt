@@ -5,8 +5,8 @@ use mathlib.Core.Path.{_≡_, refl, sym, ap, _∙_}
 use mathlib.Core.List.{List, [], _∷_}
 use native.Mathlib.Omega.{arith}
 use lib.ListN.{getD}
-use Rattle.refusal.specs.Refusals.{numberOf, refusal}
-use Rattle.refusal.specs.Answers.{Answer, accepted, refused, TellSame}
+use Rattle.refusal.specs.Refusals.{numberOf, refusal, inside, NumbersApart}
+use Rattle.refusal.specs.Answers.{Answer, accepted, refused, TellSame, OneResult}
 use Rattle.refusal.specs.declared.Reason.{Reason}
 use Rattle.refusal.specs.declared.Reason.the-variants.{Incomplete, Complete, Verify, LengthValue, Tag, Switch, TooLarge, BadLength, NoRoom, Elsewhere, NoSuch, NotYetImplemented}
 use Rattle.refusal.specs.declared.Refusal.{Refusal}
@@ -39,11 +39,16 @@ pub its-reason : (why : Reason) (at lack : ℕ) → refusal why at lack .reason 
 unfolding refusal
 its-reason why at lack = refl
 
+-- inside a part it stays
+pub inside-reason : (at : ℕ) (r : Refusal) → inside at r .reason ≡ r .reason
+unfolding inside
+inside-reason at r = refl
+
 one-refusal : (r r′ : Refusal) → r .reason ≡ r′ .reason → r ≡ r′
 one-refusal r r′ e = ap (λ (why : Reason). record { reason = why }) e
 
 -- no refusal has the number 0
-not-zero : (r : Reason) → 0 ≡ numberOf r → ⊥
+pub not-zero : (r : Reason) → 0 ≡ numberOf r → ⊥
 not-zero Incomplete e = omega (arith, e)
 not-zero Complete e = omega (arith, e)
 not-zero Verify e = omega (arith, e)
@@ -57,6 +62,9 @@ not-zero Elsewhere e = omega (arith, e)
 not-zero NoSuch e = omega (arith, e)
 not-zero NotYetImplemented e = omega (arith, e)
 
+pub numbers-apart : NumbersApart
+numbers-apart = record { apart = one-reason; notZero = not-zero }
+
 pub told : {A : Type 0} (x y : Answer A) → TellSame x y → x ≡ y
 told (accepted a) (accepted b) (n, v) = cc
 told (accepted a) (refused r) (n, v) = absurd (not-zero (r .reason) n)
@@ -68,5 +76,5 @@ pub case : {A B : Type 0} (says : B → Answer A) {o x : B} {a : Answer A} → s
 case says e g = sym e ∙ ap says g
 
 -- an enum with a way back from what it says loses nothing either
-pub tells-all : {A B : Type 0} (says : B → Answer A) (back : Answer A → B) → ((b : B) → back (says b) ≡ b) → (x y : B) → TellSame (says x) (says y) → x ≡ y
+pub tells-all : {A B : Type 0} (says : B → Answer A) (back : Answer A → B) → ((b : B) → back (says b) ≡ b) → OneResult says
 tells-all says back home x y e = sym (home x) ∙ ap back (told (says x) (says y) e) ∙ home y

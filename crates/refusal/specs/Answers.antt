@@ -1,5 +1,5 @@
 -- Demand 1: a call ends with a value or one refusal. Each answer of the code that is an enum has its `Says`, by cases, into this: the
--- paper's number and the values. That `Says` loses nothing is shown in `proofs/Told.antt`.
+-- paper's number and the values.
 use Prim.Native.Nat.{ℕ}
 use mathlib.Core.Path.{_≡_}
 use mathlib.Core.Option.{Option, none, some}
@@ -23,6 +23,10 @@ valuesIn (refused r) = none
 -- two answers tell the same: equal numbers and equal values
 abbrev pub TellSame : {A : Type 0} → Answer A → Answer A → Type 0
 TellSame x y = (numberIn x ≡ numberIn y) × (valuesIn x ≡ valuesIn y)
+
+-- an answer of the code loses nothing in its `Says`: equal numbers and equal values are one result
+abbrev pub OneResult : {A B : Type 0} → (B → Answer A) → Type 0
+OneResult {A} {B} says = (x y : B) → TellSame (says x) (says y) → x ≡ y
 
 -- go on with the value, or hand on the refusal: the Rust's `?`
 abbrev pub then : {A B : Type 0} → Answer A → (A → Answer B) → Answer B

@@ -1,5 +1,6 @@
 -- Document 01, "What the tap says when it says no": the table's numbers, and what a refusal is made from.
 use Prim.Native.Nat.{ℕ}
+use mathlib.Core.Path.{_≡_}
 use Rattle.refusal.specs.declared.Reason.{Reason}
 use Rattle.refusal.specs.declared.Reason.the-variants.{Incomplete, Complete, Verify, LengthValue, Tag, Switch, TooLarge, BadLength, NoRoom, Elsewhere, NoSuch, NotYetImplemented}
 use Rattle.refusal.specs.declared.Refusal.{Refusal}
@@ -17,6 +18,11 @@ numberOf NoRoom = 9
 numberOf Elsewhere = 10
 numberOf NoSuch = 11
 numberOf NotYetImplemented = 12
+
+-- no two reasons share a number, and none has that of an accepted answer
+pub record NumbersApart : Type 0 where
+  pub apart : (r t : Reason) → numberOf r ≡ numberOf t → r ≡ t
+  pub notZero : (r : Reason) → 0 ≡ numberOf r → ⊥
 
 -- the refusal of an item that begins at a place and lacks so many bytes: it carries its number alone, so place and shortfall are dropped
 unfoldable pub refusal : Reason → ℕ → ℕ → Refusal

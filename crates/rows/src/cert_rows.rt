@@ -17,26 +17,24 @@ fn say_byte(a: NumberAnswer) {
     }
 }
 
-pub fn say_hex(s: &[u8]) {
+pub(crate) fn say_hex(s: &[u8]) {
     let count = s.len();
     for k in 0..count {
         say_byte(norrabist::number_at(s, Width::One, k));
     }
 }
 
-// An item of a list, in hex, and where the next one begins.
-fn say_part(list: &[u8], a: PartAnswer) -> usize {
+// An item of a list, in hex.
+fn say_part(list: &[u8], a: PartAnswer) {
     match a {
         PartAnswer::Refused(r) => {
             say::text(b" refused ");
             say::number(norrabist::refusal_number(r) as usize);
-            list.len()
         }
         PartAnswer::Got(p) => {
             say::text(b" <");
             say_hex(norrabist::part_of(list, p.view));
             say::text(b">");
-            p.next
         }
     }
 }
@@ -49,7 +47,11 @@ fn say_chain(s: &[u8], c: TlsCertificateContents) {
     say::text(b":");
     let mut at = 0;
     for k in 0..count {
-        at = say_part(chain, c.cert_from(s, at));
+        let a = c.cert_from(s, at);
+        say_part(chain, a);
+        if let PartAnswer::Got(p) = a {
+            at = p.next;
+        }
     }
     say::text(b", then");
     say_part(chain, c.cert_at(s, count));
@@ -87,7 +89,11 @@ fn say_names(s: &[u8], c: TlsCertificateRequestContents) {
     say::text(b":");
     let mut at = 0;
     for k in 0..count {
-        at = say_part(list, c.ca_from(s, at));
+        let a = c.ca_from(s, at);
+        say_part(list, a);
+        if let PartAnswer::Got(p) = a {
+            at = p.next;
+        }
     }
     say::text(b", then");
     say_part(list, c.ca_at(s, count));
@@ -117,7 +123,7 @@ fn request(row: &[u8], text: &[u8], s: &[u8]) {
     }
 }
 
-pub fn lists() {
+pub(crate) fn lists() {
     certificate(
         b"16",
         b"000005 000001 aa ff",

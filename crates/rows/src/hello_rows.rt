@@ -9,6 +9,7 @@ use norrabist::TlsClientHelloContents;
 use norrabist::TlsMessageHandshake;
 use norrabist::TlsServerHelloContents;
 use norrabist::TlsServerHelloV13Draft18Contents;
+use norrabist::View;
 
 // How every accepted line ends: the extensions, and the bytes from the tail on.
 fn say_end(s: &[u8], ext: OptView, tail: usize) {
@@ -23,7 +24,7 @@ fn say_end(s: &[u8], ext: OptView, tail: usize) {
 }
 
 fn say_client(s: &[u8], c: TlsClientHelloContents) {
-    say::hex(b"accepted, version ", c.version(), 4);
+    say::hex(b"accepted, version ", c.version() as usize, 4);
     let id = c.session_id;
     say::opt(b", id", id);
     say::text(b", ");
@@ -35,23 +36,19 @@ fn say_client(s: &[u8], c: TlsClientHelloContents) {
     say_end(s, ext, c.tail);
 }
 
-fn wide(b: u8) -> u16 {
-    b as u16
-}
-
 fn say_server(s: &[u8], c: TlsServerHelloContents) {
-    say::hex(b"accepted, version ", c.version, 4);
+    say::hex(b"accepted, version ", c.version as usize, 4);
     let id = c.session_id;
     say::opt(b", id", id);
-    say::hex(b", cipher ", c.cipher, 4);
-    say::hex(b", compression ", wide(c.compression), 2);
+    say::hex(b", cipher ", c.cipher as usize, 4);
+    say::hex(b", compression ", c.compression as usize, 2);
     let ext = c.ext;
     say_end(s, ext, c.tail);
 }
 
 fn say_draft18(s: &[u8], c: TlsServerHelloV13Draft18Contents) {
-    say::hex(b"accepted, draft 18, version ", c.version, 4);
-    say::hex(b", cipher ", c.cipher, 4);
+    say::hex(b"accepted, draft 18, version ", c.version as usize, 4);
+    say::hex(b", cipher ", c.cipher as usize, 4);
     let ext = c.ext;
     say_end(s, ext, c.tail);
 }
@@ -87,7 +84,7 @@ fn server(row: &[u8], text: &[u8], s: &[u8]) {
 }
 
 // H, what may follow it, and its lengths broken one by one.
-pub fn clients() {
+pub(crate) fn clients() {
     let mut s = [0u8; 80];
     s[0] = 0x03;
     s[1] = 0x03;
@@ -112,7 +109,7 @@ pub fn clients() {
 }
 
 // Versions that only one of the two functions opens, or neither.
-pub fn versions() {
+pub(crate) fn versions() {
     let mut s = [0u8; 80];
     s[0] = 0x03;
     s[1] = 0x04;
@@ -127,7 +124,7 @@ pub fn versions() {
 }
 
 // At 0x0300 extensions are never looked for.
-pub fn servers() {
+pub(crate) fn servers() {
     let mut s = [0u8; 80];
     s[0] = 0x03;
     s[36] = 0x2f;
@@ -136,12 +133,14 @@ pub fn servers() {
     server(b"-", b"0303 Z 00 002f 00 0000", &s[..40]);
 }
 
-// The parts that the accessors hand out, by their lengths, and the time.
+// The parts that the accessors hand out, by their lengths, and the times.
 fn say_accessors(s: &[u8], c: TlsClientHelloContents) {
     say::text(b"random ");
     say::bytes(c.random(s).len());
     say::text(b", rand_time ");
     io::print_hex(STDOUT_FILENO, c.rand_time(s) as u64, 8);
+    say::text(b", gmt_unix_time ");
+    io::print_hex(STDOUT_FILENO, c.gmt_unix_time(s) as u64, 8);
     say::text(b", rand_bytes ");
     say::bytes(c.rand_bytes(s).len());
     say::text(b", id ");
@@ -159,8 +158,24 @@ fn accessor(text: &[u8], s: &[u8]) {
     }
 }
 
-// The time is the first four bytes of the random: RFC 5246 7.4.1.2.
-pub fn accessors() {
+// A made-up value: the random alone, all other parts absent or empty.
+fn made_up(text: &[u8], s: &[u8], random: View) {
+    say::row(b"-", b"made-up ClientHello", text);
+    let none = View { start: 0, len: 0 };
+    let hello = TlsClientHelloContents {
+        version: 0x0303,
+        random,
+        session_id: OptView::Absent,
+        ciphers: none,
+        comp: none,
+        ext: OptView::Absent,
+        tail: 0,
+    };
+    say_accessors(s, hello);
+}
+
+// gmt_unix_time is the first four bytes of the random; rand_time is another number than 0 only where there are no more.
+pub(crate) fn accessors() {
     let mut s = [0u8; 80];
     s[0] = 0x03;
     s[1] = 0x03;
@@ -176,4 +191,7 @@ pub fn accessors() {
         b"0303 01020304, 28 zero bytes, 02 0000 0000 00 0001 00",
         &s[..43],
     );
+    made_up(b"random 010203", &s[..43], View { start: 2, len: 3 });
+    made_up(b"random 01020304", &s[..43], View { start: 2, len: 4 });
+    made_up(b"random 0102030400", &s[..43], View { start: 2, len: 5 });
 }

@@ -26,31 +26,30 @@ fn message(row: &[u8], text: &[u8], s: &[u8]) {
     }
 }
 
-// One call of the walk, told; the walk moved on.
-fn say_next(content: &[u8], walk: TlsRecordWalk) -> TlsRecordWalk {
-    let walked = walk.next(content);
-    let answer = walked.message;
+// What a call of the walk hands back.
+fn say_next(a: MessageAnswer) {
     say::text(b", ");
-    match answer {
+    match a {
         MessageAnswer::Refused(r) => {
             say::text(b"refused ");
             say::number(norrabist::refusal_number(r) as usize);
         }
         MessageAnswer::Got(m) => say_kind(m),
     }
-    walked.walk
 }
 
 // One call more of the walk than there are messages.
 fn say_walk(content: &[u8], count: usize) {
     say::text(b"; the walk");
     let mut walk = TlsRecordWalk::new();
-    for k in 0..count {
-        walk = say_next(content, walk);
+    for k in 0..=count {
+        let walked = walk.next(content);
+        let message = walked.message;
+        say_next(message);
+        walk = walked.walk;
     }
-    let last = say_next(content, walk);
     say::text(b" at ");
-    say::number(last.next);
+    say::number(walk.next);
     say::text(b"\n");
 }
 
@@ -72,14 +71,14 @@ fn record(row: &[u8], text: &[u8], s: &[u8]) {
     }
 }
 
-pub fn messages() {
+pub(crate) fn messages() {
     message(b"10", b"03 000000", &[0x03, 0x00, 0x00, 0x00]);
     message(b"10", b"03 000001", &[0x03, 0x00, 0x00, 0x01]);
     message(b"11", b"01 000000", &[0x01, 0x00, 0x00, 0x00]);
     message(b"-", b"18 000001 01", &[0x18, 0x00, 0x00, 0x01, 0x01]);
 }
 
-pub fn records() {
+pub(crate) fn records() {
     record(
         b"11",
         b"16 0301 0004 01 000000",

@@ -3,15 +3,15 @@ use libc::STDOUT_FILENO;
 use norrabist::OptView;
 use norrabist::Refusal;
 
-pub fn text(text: &[u8]) {
+pub(crate) fn text(text: &[u8]) {
     io::write_all(STDOUT_FILENO, text);
 }
 
-pub fn number(n: usize) {
+pub(crate) fn number(n: usize) {
     io::print_decimal(STDOUT_FILENO, n as u64);
 }
 
-pub fn bytes(n: usize) {
+pub(crate) fn bytes(n: usize) {
     number(n);
     if n == 1 {
         text(b" byte");
@@ -20,19 +20,19 @@ pub fn bytes(n: usize) {
     }
 }
 
-pub fn hex(name: &[u8], n: u16, digits: usize) {
+pub(crate) fn hex(name: &[u8], n: usize, digits: usize) {
     text(name);
     io::print_hex(STDOUT_FILENO, n as u64, digits);
 }
 
 // A refusal is its number alone.
-pub fn refused(r: Refusal) {
+pub(crate) fn refused(r: Refusal) {
     text(b"refused ");
     number(norrabist::refusal_number(r) as usize);
     text(b"\n");
 }
 
-pub fn opt(name: &[u8], v: OptView) {
+pub(crate) fn opt(name: &[u8], v: OptView) {
     text(name);
     match v {
         OptView::Absent => text(b" absent"),
@@ -44,7 +44,7 @@ pub fn opt(name: &[u8], v: OptView) {
 }
 
 // How every line begins: the row's number, what the input is read as, the input in the paper's notation.
-pub fn row(number: &[u8], kind: &[u8], input: &[u8]) {
+pub(crate) fn row(number: &[u8], kind: &[u8], input: &[u8]) {
     text(number);
     text(b" ");
     text(kind);

@@ -17,12 +17,8 @@ fn say(text: &[u8]) {
     io::write_all(STDOUT_FILENO, text);
 }
 
-fn wide(b: u8) -> u64 {
-    b as u64
-}
-
 fn say_byte(b: u8) {
-    io::print_hex(STDOUT_FILENO, wide(b), 2);
+    io::print_hex(STDOUT_FILENO, b as u64, 2);
 }
 
 fn say_number(n: usize) {

@@ -11,27 +11,21 @@ use norrabist::TlsServerHelloV13Draft18Contents;
 use norrabist::View;
 use norrabist::WriteAnswer;
 
-// More than the longest hello; also the length of the source of every part.
+// More than the longest hello: the length of every output, which is lent as 0xaa, and of the source of every part.
 const MOST: usize = 131_500;
 
-fn fresh(out: &mut [u8]) {
-    for k in 0..out.len() {
-        out[k] = 0xaa;
-    }
-}
-
 // How many bytes are not 0xaa.
-fn others(out: &[u8]) -> usize {
+fn say_others(out: &[u8]) {
     let mut n: usize = 0;
     for k in 0..out.len() {
-        if out[k] != 0xaa && n < MOST {
+        if out[k] != 0xaa {
             n = n + 1;
         }
     }
-    n
+    say_number(n);
 }
 
-fn say_answer(room: usize, a: WriteAnswer, out: &[u8]) {
+fn say_answer(room: usize, a: WriteAnswer, out: &[u8; MOST]) {
     say(b" room");
     say_number(room);
     say(b":");
@@ -42,34 +36,41 @@ fn say_answer(room: usize, a: WriteAnswer, out: &[u8]) {
             say_number(n);
         }
     }
-    say_number(others(out));
+    say_others(out);
     say(b"\n");
 }
 
-fn from_front(len: usize) -> View {
-    View { start: 0, len }
-}
-
-// The client hello of these lengths, said.
-fn client_of(
+fn client(
     random: usize,
     id: usize,
     ciphers: usize,
     comp: usize,
     ext: usize,
-) -> TlsClientHelloContents {
+    room: usize,
+    s: &[u8],
+    mut out: [u8; MOST],
+) {
     say(b"gen_tls_clienthello");
     say_number(random);
     say_number(id);
     say_number(ciphers);
     say_number(comp);
     say_number(ext);
-    let random = from_front(random);
-    let session_id = OptView::Present(from_front(id));
-    let ciphers = from_front(ciphers);
-    let comp = from_front(comp);
-    let ext = OptView::Present(from_front(ext));
-    TlsClientHelloContents {
+    let random = View {
+        start: 0,
+        len: random,
+    };
+    let session_id = OptView::Present(View { start: 0, len: id });
+    let ciphers = View {
+        start: 0,
+        len: ciphers,
+    };
+    let comp = View {
+        start: 0,
+        len: comp,
+    };
+    let ext = OptView::Present(View { start: 0, len: ext });
+    let m = TlsClientHelloContents {
         version: 0x0303,
         random,
         session_id,
@@ -77,26 +78,24 @@ fn client_of(
         comp,
         ext,
         tail: 0,
-    }
-}
-
-fn client(m: TlsClientHelloContents, room: usize, s: &[u8], out: &mut [u8]) {
-    fresh(out);
-    if room <= out.len() {
+    };
+    if room <= MOST {
         let a = norrabist::gen_tls_clienthello(m, s, &mut out[..room]);
-        say_answer(room, a, out);
+        say_answer(room, a, &out);
     }
 }
 
-fn server(random: usize, id: usize, ext: usize, room: usize, s: &[u8], out: &mut [u8]) {
-    fresh(out);
+fn server(random: usize, id: usize, ext: usize, room: usize, s: &[u8], mut out: [u8; MOST]) {
     say(b"gen_tls_serverhello");
     say_number(random);
     say_number(id);
     say_number(ext);
-    let random = from_front(random);
-    let session_id = OptView::Present(from_front(id));
-    let ext = OptView::Present(from_front(ext));
+    let random = View {
+        start: 0,
+        len: random,
+    };
+    let session_id = OptView::Present(View { start: 0, len: id });
+    let ext = OptView::Present(View { start: 0, len: ext });
     let m = TlsServerHelloContents {
         version: 0x0300,
         random,
@@ -106,19 +105,21 @@ fn server(random: usize, id: usize, ext: usize, room: usize, s: &[u8], out: &mut
         ext,
         tail: 0,
     };
-    if room <= out.len() {
+    if room <= MOST {
         let a = norrabist::gen_tls_serverhello(m, s, &mut out[..room]);
-        say_answer(room, a, out);
+        say_answer(room, a, &out);
     }
 }
 
-fn draft18(random: usize, ext: usize, room: usize, s: &[u8], out: &mut [u8]) {
-    fresh(out);
+fn draft18(random: usize, ext: usize, room: usize, s: &[u8], mut out: [u8; MOST]) {
     say(b"gen_tls_serverhellodraft18");
     say_number(random);
     say_number(ext);
-    let random = from_front(random);
-    let ext = OptView::Present(from_front(ext));
+    let random = View {
+        start: 0,
+        len: random,
+    };
+    let ext = OptView::Present(View { start: 0, len: ext });
     let m = TlsServerHelloV13Draft18Contents {
         version: 0x7f12,
         random,
@@ -126,44 +127,46 @@ fn draft18(random: usize, ext: usize, room: usize, s: &[u8], out: &mut [u8]) {
         ext,
         tail: 0,
     };
-    if room <= out.len() {
+    if room <= MOST {
         let a = norrabist::gen_tls_serverhellodraft18(m, s, &mut out[..room]);
-        say_answer(room, a, out);
+        say_answer(room, a, &out);
     }
 }
 
-fn exchange(name: &[u8], m: TlsClientKeyExchangeContents, room: usize, s: &[u8], out: &mut [u8]) {
-    fresh(out);
+fn exchange(
+    name: &[u8],
+    m: TlsClientKeyExchangeContents,
+    room: usize,
+    s: &[u8],
+    mut out: [u8; MOST],
+) {
     say(b"gen_tls_clientkeyexchange ");
     say(name);
-    if room <= out.len() {
+    if room <= MOST {
         let a = norrabist::gen_tls_clientkeyexchange(m, s, &mut out[..room]);
-        say_answer(room, a, out);
+        say_answer(room, a, &out);
     }
 }
 
-fn finished(start: usize, len: usize, room: usize, s: &[u8], out: &mut [u8]) {
-    fresh(out);
+fn finished(start: usize, len: usize, room: usize, s: &[u8], mut out: [u8; MOST]) {
     say(b"gen_tls_finished");
     say_number(start);
     say_number(len);
-    if room <= out.len() {
+    if room <= MOST {
         let a = norrabist::gen_tls_finished(View { start, len }, s, &mut out[..room]);
-        say_answer(room, a, out);
+        say_answer(room, a, &out);
     }
 }
 
-fn request(room: usize, out: &mut [u8]) {
-    fresh(out);
+fn request(room: usize, mut out: [u8; MOST]) {
     say(b"gen_tls_hellorequest");
-    if room <= out.len() {
+    if room <= MOST {
         let a = norrabist::gen_tls_hellorequest(&mut out[..room]);
-        say_answer(room, a, out);
+        say_answer(room, a, &out);
     }
 }
 
-fn plaintext(len: usize, room: usize, s: &[u8], out: &mut [u8]) {
-    fresh(out);
+fn plaintext(len: usize, room: usize, s: &[u8], mut out: [u8; MOST]) {
     let hdr = TlsRecordHeader {
         record_type: 0x16,
         version: 0x0303,
@@ -171,30 +174,30 @@ fn plaintext(len: usize, room: usize, s: &[u8], out: &mut [u8]) {
     };
     say(b"gen_tls_plaintext");
     say_number(len);
-    if len <= s.len() && room <= out.len() {
+    if len <= s.len() && room <= MOST {
         let a = norrabist::gen_tls_plaintext(hdr, &s[..len], &mut out[..room]);
-        say_answer(room, a, out);
+        say_answer(room, a, &out);
     }
 }
 
-fn clients(s: &[u8], out: &mut [u8]) {
-    client(client_of(32, 0, 0, 0, 0), 44, s, out);
-    client(client_of(32, 0, 0, 0, 0), 43, s, out);
-    client(client_of(32, 32, 65_534, 255, 65_535), 131_400, s, out);
-    client(client_of(32, 32, 65_534, 255, 65_535), 131_399, s, out);
+fn clients(s: &[u8], out: [u8; MOST]) {
+    client(32, 0, 0, 0, 0, 44, s, out);
+    client(32, 0, 0, 0, 0, 43, s, out);
+    client(32, 32, 65_534, 255, 65_535, 131_400, s, out);
+    client(32, 32, 65_534, 255, 65_535, 131_399, s, out);
 }
 
-fn clients_refused(s: &[u8], out: &mut [u8]) {
-    client(client_of(31, 0, 0, 0, 0), MOST, s, out);
-    client(client_of(33, 0, 0, 0, 0), MOST, s, out);
-    client(client_of(32, 33, 0, 0, 0), MOST, s, out);
-    client(client_of(32, 0, 1, 0, 0), MOST, s, out);
-    client(client_of(32, 0, 65_536, 0, 0), MOST, s, out);
-    client(client_of(32, 0, 0, 256, 0), MOST, s, out);
-    client(client_of(32, 0, 0, 0, 65_536), 0, s, out);
+fn clients_refused(s: &[u8], out: [u8; MOST]) {
+    client(31, 0, 0, 0, 0, MOST, s, out);
+    client(33, 0, 0, 0, 0, MOST, s, out);
+    client(32, 33, 0, 0, 0, MOST, s, out);
+    client(32, 0, 1, 0, 0, MOST, s, out);
+    client(32, 0, 65_536, 0, 0, MOST, s, out);
+    client(32, 0, 0, 256, 0, MOST, s, out);
+    client(32, 0, 0, 0, 65_536, 0, s, out);
 }
 
-fn servers(s: &[u8], out: &mut [u8]) {
+fn servers(s: &[u8], out: [u8; MOST]) {
     server(32, 32, 65_535, 65_611, s, out);
     server(32, 32, 65_535, 65_610, s, out);
     server(32, 33, 0, 0, s, out);
@@ -202,7 +205,7 @@ fn servers(s: &[u8], out: &mut [u8]) {
     server(32, 0, 65_536, MOST, s, out);
 }
 
-fn drafts(s: &[u8], out: &mut [u8]) {
+fn drafts(s: &[u8], out: [u8; MOST]) {
     draft18(32, 65_535, 65_577, s, out);
     draft18(32, 65_535, 65_576, s, out);
     draft18(32, 65_536, MOST, s, out);
@@ -210,12 +213,21 @@ fn drafts(s: &[u8], out: &mut [u8]) {
     draft18(33, 0, MOST, s, out);
 }
 
-fn exchanges(s: &[u8], out: &mut [u8]) {
-    let raw = TlsClientKeyExchangeContents::Unknown(from_front(131_400));
-    let dh = TlsClientKeyExchangeContents::Dh(from_front(65_535));
-    let dh_past = TlsClientKeyExchangeContents::Dh(from_front(65_536));
-    let ecdh = TlsClientKeyExchangeContents::Ecdh(from_front(255));
-    let ecdh_past = TlsClientKeyExchangeContents::Ecdh(from_front(256));
+fn exchanges(s: &[u8], out: [u8; MOST]) {
+    let raw = TlsClientKeyExchangeContents::Unknown(View {
+        start: 0,
+        len: 131_400,
+    });
+    let dh = TlsClientKeyExchangeContents::Dh(View {
+        start: 0,
+        len: 65_535,
+    });
+    let dh_past = TlsClientKeyExchangeContents::Dh(View {
+        start: 0,
+        len: 65_536,
+    });
+    let ecdh = TlsClientKeyExchangeContents::Ecdh(View { start: 0, len: 255 });
+    let ecdh_past = TlsClientKeyExchangeContents::Ecdh(View { start: 0, len: 256 });
     exchange(b"raw 131,400", raw, 131_404, s, out);
     exchange(b"raw 131,400", raw, 131_403, s, out);
     exchange(b"DH 65,535", dh, 65_541, s, out);
@@ -224,7 +236,7 @@ fn exchanges(s: &[u8], out: &mut [u8]) {
     exchange(b"ECDH 256", ecdh_past, 0, s, out);
 }
 
-fn parts(s: &[u8], out: &mut [u8]) {
+fn parts(s: &[u8], out: [u8; MOST]) {
     finished(0, MOST, 0, s, out);
     finished(1, MOST, MOST, s, out);
     finished(MOST, 0, 4, s, out);
@@ -233,7 +245,7 @@ fn parts(s: &[u8], out: &mut [u8]) {
     request(3, out);
 }
 
-fn records(s: &[u8], out: &mut [u8]) {
+fn records(s: &[u8], out: [u8; MOST]) {
     plaintext(0, 5, s, out);
     plaintext(0, 4, s, out);
     plaintext(16_640, 16_645, s, out);
@@ -241,14 +253,14 @@ fn records(s: &[u8], out: &mut [u8]) {
     plaintext(16_641, 0, s, out);
 }
 
-pub fn all() {
+pub(crate) fn all() {
     let s = [0u8; MOST];
-    let mut out = [0u8; MOST];
-    clients(&s, &mut out);
-    clients_refused(&s, &mut out);
-    servers(&s, &mut out);
-    drafts(&s, &mut out);
-    exchanges(&s, &mut out);
-    parts(&s, &mut out);
-    records(&s, &mut out);
+    let out = [0xaau8; MOST];
+    clients(&s, out);
+    clients_refused(&s, out);
+    servers(&s, out);
+    drafts(&s, out);
+    exchanges(&s, out);
+    parts(&s, out);
+    records(&s, out);
 }

@@ -6,11 +6,12 @@ use mathlib.Core.Bool.{Bool, true, false}
 use mathlib.Core.Option.{Option, none, some}
 use native.Mathlib.Omega.{arith}
 use lib.Dec.{eqb}
-use Rattle.refusal.specs.Answers.{Answer, accepted, refused, TellSame}
+use Rattle.refusal.specs.Answers.{Answer, accepted, refused, OneResult}
 use Rattle.refusal.proofs.Told.{tells-all}
 use Rattle.wire.specs.Parts.{pick}
 use Rattle.grammar.specs.Forms.{Form}
-use Rattle.grammar.proofs.Forms.{Lawful, by-split}
+use Rattle.grammar.specs.Lawful.{Lawful}
+use Rattle.grammar.proofs.Forms.{by-split}
 use Rattle.grammar.proofs.Versions.{by-version}
 use Rattle.server.specs.Server.{server, serverVersions, serverSays}
 use Rattle.server.specs.Draft18.{draft18, draft18Says}
@@ -52,7 +53,7 @@ server-home : (a : ServerHelloAnswer) → server-back (serverSays a) ≡ a
 server-home (ServerHelloAnswer.Refused r) = refl
 server-home (ServerHelloAnswer.Got a) = refl
 
-pub one-server : (x y : ServerHelloAnswer) → TellSame (serverSays x) (serverSays y) → x ≡ y
+pub one-server : OneResult serverSays
 one-server = tells-all serverSays server-back server-home
 
 abbrev draft18-back : Answer TlsServerHelloV13Draft18Contents → Draft18Answer
@@ -63,5 +64,5 @@ draft18-home : (a : Draft18Answer) → draft18-back (draft18Says a) ≡ a
 draft18-home (Draft18Answer.Refused r) = refl
 draft18-home (Draft18Answer.Got a) = refl
 
-pub one-draft18 : (x y : Draft18Answer) → TellSame (draft18Says x) (draft18Says y) → x ≡ y
+pub one-draft18 : OneResult draft18Says
 one-draft18 = tells-all draft18Says draft18-back draft18-home

@@ -1,5 +1,6 @@
 // The ServerHello of the versions 0x0300 to 0x0303 (RFC 5246 7.4.1.3).
 ghost use mathlib.Core.Path.{_≡_};
+ghost use Rattle.grammar.specs.Demand3.{BySplit, ByVersion};
 ghost use Rattle.grammar.specs.Forms.{reading};
 ghost use Rattle.grammar.specs.Versions.{byVersion};
 ghost use Rattle.server.specs.Server.{extensionsAt, server, serverSays, serverVersions};
@@ -46,6 +47,7 @@ fn extensions(i: &[u8], at: usize, has_ext: bool) -> OptPart
 // The body by its grammar, whatever the version.
 pub fn parse_tls_server_hello_tlsv12(i: &[u8], has_ext: bool) -> ServerHelloAnswer
     ensures { λ r. ⌜ serverSays r ≡ reading (server «has_ext») (now (i .entry)) ⌝ }
+    ensures { λ _. ⌜ BySplit (server «has_ext») (now (i .entry)) ⌝ }
 {
     let start = match hello::parse_start(i) {
         StartAnswer::Refused(r) => {
@@ -83,6 +85,7 @@ pub fn parse_tls_server_hello_tlsv12(i: &[u8], has_ext: bool) -> ServerHelloAnsw
 // The version is looked at before anything else.
 pub fn parse_tls_handshake_server_hello(i: &[u8]) -> ServerHelloAnswer
     ensures { λ r. ⌜ serverSays r ≡ byVersion serverVersions (now (i .entry)) ⌝ }
+    ensures { λ _. ⌜ ByVersion serverVersions (now (i .entry)) ⌝ }
 {
     let version = match wire::number::parse_be(i, 0, Width::Two) {
         NumberAnswer::Refused(r) => {

@@ -1,5 +1,6 @@
 // The ServerHello of TLS 1.3 draft 18, version 0x7f12 (draft-ietf-tls-tls13-18, 4.1.3).
 ghost use mathlib.Core.Path.{_≡_};
+ghost use Rattle.grammar.specs.Demand3.{BySplit};
 ghost use Rattle.grammar.specs.Forms.{reading};
 ghost use Rattle.server.specs.Draft18.{draft18, draft18Says};
 ghost use Rattle.wire.specs.Parts.{optPartOf, partOf};
@@ -28,6 +29,7 @@ pub enum Draft18Answer {
 // The body by its grammar, whatever the version.
 pub fn parse_tls_server_hello_tlsv13draft18(i: &[u8]) -> Draft18Answer
     ensures { λ r. ⌜ draft18Says r ≡ reading draft18 (now (i .entry)) ⌝ }
+    ensures { λ _. ⌜ BySplit draft18 (now (i .entry)) ⌝ }
 {
     let version = match wire::number::parse_be(i, 0, Width::Two) {
         NumberAnswer::Refused(r) => {

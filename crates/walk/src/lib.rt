@@ -72,7 +72,7 @@ impl TlsRecordWalk {
 
 // Whether a body of this type is opened whatever it holds.
 fn opens_any(kind: u8) -> bool
-    ensures { λ r. ⌜ (r ≡ true → OpensAny kind) ⌝ }
+    ensures { λ r. ⌜ (r ≡ true → OpensAny kind) × (OpensAny kind → r ≡ true) ⌝ }
 {
     match kind {
         0x00 | 0x05 | 0x0c | 0x0e..=0x10 | 0x14 => true,

@@ -30,7 +30,8 @@ use Rattle.grammar.specs.Splits.{AllObey, join, blockBytes, BlockObeys, Split, 
 use Rattle.grammar.specs.Hellos.{extensions}
 use Rattle.grammar.specs.Forms.{Form, How, asView, asPart, asNumber, Out, Outs, named, allNamed, ifThere, seen, allSeen, valueOf, reading, pieces}
 use Rattle.grammar.specs.Demand3.{InRow}
-use Rattle.grammar.proofs.Forms.{Lawful, by-split}
+use Rattle.grammar.specs.Lawful.{Lawful}
+use Rattle.grammar.proofs.Forms.{by-split}
 use Rattle.text.specs.Hellos.{inside, lies, mayStand, allMay, mayWrite, helloBytes, helloText}
 use Rattle.text.specs.Messages.{messageText}
 use Rattle.wayback.specs.Hellos.{added, back, WritesBack, blockAgain, tailAgain, again, ReadsAgain}

@@ -8,13 +8,13 @@ use native.Mathlib.Numerals.{add-one}
 use native.Mathlib.Nat.{pow-suc, zero-add, div-add-mod', pow-le-pow-right}
 use lib.ListN.{length, getD, take, drop, length-append}
 use lib.Seq.{getD-drop, getD-at, take-suc}
-use Rattle.refusal.specs.Answers.{Answer, accepted, refused, TellSame}
+use Rattle.refusal.specs.Answers.{Answer, accepted, refused, OneResult}
 use Rattle.refusal.proofs.Told.{tells-all}
 use Rattle.refusal.proofs.Then.{not-both, then-accepted, then-refused}
 use Rattle.refusal.specs.declared.Reason.the-variants.{Incomplete}
 use Rattle.refusal.specs.declared.Refusal.{Refusal}
 use Rattle.wire.specs.Parts.{partAt}
-use Rattle.wire.specs.Numbers.{Bytes, Below, be, bytesIn, bytesOf, numberAt, numberSays}
+use Rattle.wire.specs.Numbers.{Bytes, Below, be, bytesIn, bytesOf, numberAt, numberSays, EveryWidth}
 use Rattle.wire.specs.declared.view.Part.{Part}
 use Rattle.wire.specs.declared.number.Width.{Width}
 use Rattle.wire.specs.declared.number.Width.the-variants.{One, Two, Three, Four}
@@ -62,6 +62,9 @@ of-be (suc w) s b h =
     let d : (be w s 0 * 256 + getD s w 0) / 256 ≡ be w s 0 = omega arith in
     let m : (be w s 0 * 256 + getD s w 0) % 256 ≡ getD s w 0 = omega arith in
     rw (zero-add, d, m, of-be w s b (omega arith), take-suc s w 0 h)
+
+pub every-width : EveryWidth
+every-width w = record { long = length-bytes w; back = be-of w; forth = of-be w; holds = be-lt w }
 
 -- what fits in three bytes or fewer leaves room for one byte more in a usize
 pub small : (k n : ℕ) → k ≤ 3 → n < 256 ^ k → n < 16777216
@@ -120,5 +123,5 @@ number-home : (a : NumberAnswer) → number-back (numberSays a) ≡ a
 number-home (Refused r) = refl
 number-home (Got a) = refl
 
-pub one-number : (x y : NumberAnswer) → TellSame (numberSays x) (numberSays y) → x ≡ y
+pub one-number : OneResult numberSays
 one-number = tells-all numberSays number-back number-home

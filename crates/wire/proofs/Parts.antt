@@ -7,7 +7,7 @@ use native.Mathlib.Omega.{arith}
 use borrow.Author.Tests.{leb-true, leb-false, le-leb, lt-leb}
 use lib.ListN.{length}
 use lib.Dec.{leb}
-use Rattle.refusal.specs.Answers.{Answer, accepted, refused, TellSame}
+use Rattle.refusal.specs.Answers.{Answer, accepted, refused, OneResult}
 use Rattle.refusal.proofs.Told.{tells-all}
 use Rattle.refusal.specs.Refusals.{refusal}
 use Rattle.refusal.specs.declared.Reason.{Reason}
@@ -73,5 +73,5 @@ part-home : (a : PartAnswer) → part-back (partSays a) ≡ a
 part-home (Refused r) = refl
 part-home (Got a) = refl
 
-pub one-part : (x y : PartAnswer) → TellSame (partSays x) (partSays y) → x ≡ y
+pub one-part : OneResult partSays
 one-part = tells-all partSays part-back part-home

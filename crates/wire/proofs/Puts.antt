@@ -8,7 +8,7 @@ use native.Mathlib.Numerals.{add-one}
 use borrow.Author.Tests.{le-leb, lt-leb, le-ltb, lt-ltb}
 use lib.ListN.{length, getD, take, drop, set, length-append, length-drop, length-set, take-append-drop}
 use lib.Seq.{take-at, drop-at, drop-drop, length-take-le, drop-cons, set-at, take-set-le, drop-set-lt, getD-set-same, take-suc}
-use Rattle.refusal.specs.Answers.{Answer, accepted, refused, TellSame}
+use Rattle.refusal.specs.Answers.{Answer, accepted, refused, OneResult}
 use Rattle.refusal.proofs.Told.{tells-all}
 use Rattle.refusal.specs.Refusals.{refusal}
 use Rattle.refusal.specs.declared.Reason.the-variants.{NoRoom, BadLength}
@@ -132,5 +132,5 @@ write-home : (a : WriteAnswer) → write-back (writeSays a) ≡ a
 write-home (Refused r) = refl
 write-home (Wrote a) = refl
 
-pub one-write : (x y : WriteAnswer) → TellSame (writeSays x) (writeSays y) → x ≡ y
+pub one-write : OneResult writeSays
 one-write = tells-all writeSays write-back write-home

@@ -1,7 +1,8 @@
 -- Numbers of any width. Document 01: "Numbers are big-endian." RFC 5246 4.1 gives the sum of the bytes, 4.4 the widths.
-use Prim.Native.Nat.{ℕ, zero, suc, _+_, _*_, _/_, _%_, _^_, _<_}
+use Prim.Native.Nat.{ℕ, zero, suc, _+_, _*_, _/_, _%_, _^_, _<_, _≤_}
+use mathlib.Core.Path.{_≡_}
 use mathlib.Core.List.{List, [], _∷_, _++_}
-use lib.ListN.{getD}
+use lib.ListN.{length, take, getD}
 use lib.Dec.{ltb}
 use Rattle.refusal.specs.Answers.{Answer, accepted, refused, then}
 use Rattle.refusal.specs.Refusals.{refusal}
@@ -33,6 +34,19 @@ be (suc w) s at = be w s at * 256 + getD s (at + w) 0
 unfoldable pub bytesOf : ℕ → ℕ → List ℕ
 bytesOf zero n = []
 bytesOf (suc w) n = bytesOf w (n / 256) ++ (n % 256 ∷ [])
+
+-- a number and its bytes, shown of every width by `proofs/Numbers.antt`
+pub record EachUndoes (w : ℕ) : Type 0 where
+  -- as many bytes as the width
+  pub long : (n : ℕ) → length (bytesOf w n) ≡ w
+  -- a number that w bytes can hold is the number of its bytes, whatever stands behind them
+  pub back : (n : ℕ) (rest : List ℕ) → n < 256 ^ w → be w (bytesOf w n ++ rest) 0 ≡ n
+  -- w bytes are the bytes of their number, which w bytes can hold
+  pub forth : (s : List ℕ) → Bytes s → w ≤ length s → bytesOf w (be w s 0) ≡ take w s
+  pub holds : (s : List ℕ) (at : ℕ) → Bytes s → be w s at < 256 ^ w
+
+abbrev pub EveryWidth : Type 0
+EveryWidth = (w : ℕ) → EachUndoes w
 
 -- reading: the number at a place, and the place past it
 unfoldable pub numberAt : ℕ → List ℕ → ℕ → Answer Number

@@ -17,11 +17,11 @@ enum-known-c c = search needs
 
 returns : tie.Need-returns
 unfolding clientMessage
-returns c = rw (case clientSays (c .before .before .before .parse-tls-handshake-client-hello .ensures) (c .before .r .given .1))
+returns c = rw (case clientSays (c .before .before .before .parse-tls-handshake-client-hello .ensures .0) (c .before .r .given .1))
 
 returns-2 : tie.Need-returns-2
 unfolding clientMessage
-returns-2 c = rw (case clientSays (c .before .before .before .parse-tls-handshake-client-hello .ensures) (c .before .c .given .1))
+returns-2 c = rw (case clientSays (c .before .before .before .parse-tls-handshake-client-hello .ensures .0) (c .before .c .given .1))
 
 pub parse-tls-handshake-msg-client-hello-spec : {M : Type 1} → statement M
 parse-tls-handshake-msg-client-hello-spec =

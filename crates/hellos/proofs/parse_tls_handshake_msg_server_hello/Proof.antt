@@ -37,14 +37,14 @@ unfolding serverMessage
 returns-2 c =
     let i = c .before .before .before .before in
     let g = i .before .before .before in
-    rw (case numberSays (g .before .before .parse-be .ensures .0) (g .n .given .1), eq-eqb _ _ (i .if1 .taken), case draft18Says (c .before .before .before .parse-tls-server-hello-tlsv13draft18 .ensures) (c .before .r2 .given .1))
+    rw (case numberSays (g .before .before .parse-be .ensures .0) (g .n .given .1), eq-eqb _ _ (i .if1 .taken), case draft18Says (c .before .before .before .parse-tls-server-hello-tlsv13draft18 .ensures .0) (c .before .r2 .given .1))
 
 returns-3 : tie.Need-returns-3
 unfolding serverMessage
 returns-3 c =
     let i = c .before .before .before .before in
     let g = i .before .before .before in
-    rw (case numberSays (g .before .before .parse-be .ensures .0) (g .n .given .1), eq-eqb _ _ (i .if1 .taken), case draft18Says (c .before .before .before .parse-tls-server-hello-tlsv13draft18 .ensures) (c .before .c .given .1))
+    rw (case numberSays (g .before .before .parse-be .ensures .0) (g .n .given .1), eq-eqb _ _ (i .if1 .taken), case draft18Says (c .before .before .before .parse-tls-server-hello-tlsv13draft18 .ensures .0) (c .before .c .given .1))
 
 parse-tls-handshake-server-hello-requires : tie.Need-parse-tls-handshake-server-hello-requires
 parse-tls-handshake-server-hello-requires c κs = search needs
@@ -60,14 +60,14 @@ unfolding serverMessage
 returns-4 c =
     let i = c .before .before .before .before in
     let g = i .before .before .before in
-    rw (case numberSays (g .before .before .parse-be .ensures .0) (g .n .given .1), ne-eqb _ _ (i .if1 .left), case serverSays (c .before .before .before .parse-tls-handshake-server-hello .ensures) (c .before .r3 .given .1))
+    rw (case numberSays (g .before .before .parse-be .ensures .0) (g .n .given .1), ne-eqb _ _ (i .if1 .left), case serverSays (c .before .before .before .parse-tls-handshake-server-hello .ensures .0) (c .before .r3 .given .1))
 
 returns-5 : tie.Need-returns-5
 unfolding serverMessage
 returns-5 c =
     let i = c .before .before .before .before in
     let g = i .before .before .before in
-    rw (case numberSays (g .before .before .parse-be .ensures .0) (g .n .given .1), ne-eqb _ _ (i .if1 .left), case serverSays (c .before .before .before .parse-tls-handshake-server-hello .ensures) (c .before .c2 .given .1))
+    rw (case numberSays (g .before .before .parse-be .ensures .0) (g .n .given .1), ne-eqb _ _ (i .if1 .left), case serverSays (c .before .before .before .parse-tls-handshake-server-hello .ensures .0) (c .before .c2 .given .1))
 
 pub parse-tls-handshake-msg-server-hello-spec : {M : Type 1} → statement M
 parse-tls-handshake-msg-server-hello-spec =

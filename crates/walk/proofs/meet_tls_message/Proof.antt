@@ -30,7 +30,7 @@ returns-2 : tie.Need-returns-2
 unfolding metHead
 returns-2 c =
     let g = c .before .before .before in
-    let e = c .before .opens-any .ensures (c .if1 .taken) _ in
+    let e = c .before .opens-any .ensures .0 (c .if1 .taken) _ in
     rw (met-got _ _ (case headSays (g .before .before .parse-tls-message-head .ensures) (g .h .given .1)) (e .1))
 
 part-of-requires : tie.Need-part-of-requires

@@ -5,13 +5,16 @@ use Rattle.look.proofs.lists.each_number.Statement.{statement}
 use Rattle.look.proofs.lists.each_number.Tie as tie
 
 abbrev Inv-loop : tie.InvT-loop
-Inv-loop list body count k₀ k = Unit
+Inv-loop numbers w count digits k₀ k = Unit
 
 abbrev μ-loop : tie.MeasureT-loop
-μ-loop list body count k₀ k = count - k
+μ-loop numbers w count digits k₀ k = count - k
 
 loop-holds : tie.Need-loop-holds Inv-loop μ-loop
 loop-holds c = search needs
+
+number-at-requires : tie.Need-number-at-requires Inv-loop μ-loop
+number-at-requires c κs = search needs
 
 say-number-requires : tie.Need-say-number-requires Inv-loop μ-loop
 say-number-requires c κs = search needs
@@ -31,4 +34,13 @@ returns c = search needs
 pub each-number-spec : {M : Type 1} → statement M
 each-number-spec =
     tie.close
-    (tie.spec Inv-loop μ-loop loop-holds say-number-requires add-k loop-less loop-again returns)
+    (tie.spec
+    Inv-loop
+    μ-loop
+    loop-holds
+    number-at-requires
+    say-number-requires
+    add-k
+    loop-less
+    loop-again
+    returns)

@@ -5,19 +5,31 @@ use Rattle.look.proofs.messages.say_messages.Statement.{statement}
 use Rattle.look.proofs.messages.say_messages.Tie as tie
 
 abbrev Inv-loop : tie.InvT-loop
-Inv-loop content count dropped at walk₀ k₀ walk k = Unit
+Inv-loop s content count dropped messages at₀ k₀ at k = Unit
 
 abbrev μ-loop : tie.MeasureT-loop
-μ-loop content count dropped at walk₀ k₀ walk k = count - k
+μ-loop s content count dropped messages at₀ k₀ at k = count - k
 
-new-requires : tie.Need-new-requires Inv-loop μ-loop
-new-requires c κs = search needs
+part-of-requires : tie.Need-part-of-requires Inv-loop μ-loop
+part-of-requires c κs = search needs
 
 loop-holds : tie.Need-loop-holds Inv-loop μ-loop
 loop-holds c = search needs
 
+parse-tls-message-head-requires : tie.Need-parse-tls-message-head-requires Inv-loop μ-loop
+parse-tls-message-head-requires c κs = search needs
+
+enum-known-head : tie.Need-enum-known-head Inv-loop μ-loop
+enum-known-head c = search needs
+
+add-say-message : tie.Need-add-say-message Inv-loop μ-loop
+add-say-message c = search needs
+
 say-message-requires : tie.Need-say-message-requires Inv-loop μ-loop
 say-message-requires c κs = search needs
+
+enum-told : tie.Need-enum-told Inv-loop μ-loop
+enum-told c = search needs
 
 add-k : tie.Need-add-k Inv-loop μ-loop
 add-k c = search needs
@@ -40,9 +52,13 @@ say-messages-spec =
     (tie.spec
     Inv-loop
     μ-loop
-    new-requires
+    part-of-requires
     loop-holds
+    parse-tls-message-head-requires
+    enum-known-head
+    add-say-message
     say-message-requires
+    enum-told
     add-k
     loop-less
     loop-again

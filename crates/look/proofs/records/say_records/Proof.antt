@@ -1,35 +1,32 @@
--- `say_records` is safe and ends: each turn leaves one turn less. Assumes nothing.
+-- `say_records` is safe and ends: each turn leaves one record less. Assumes nothing.
 use Prim.Native.Nat.{_-_}
 use borrow.Author.Needs.{needs}
 use Rattle.look.proofs.records.say_records.Statement.{statement}
 use Rattle.look.proofs.records.say_records.Tie as tie
 
 abbrev Inv-loop : tie.InvT-loop
-Inv-loop s seen₀ k₀ k-end seen k = Unit
+Inv-loop s count at₀ k₀ at k = Unit
 
 abbrev μ-loop : tie.MeasureT-loop
-μ-loop s seen₀ k₀ k-end seen k = k-end - k
+μ-loop s count at₀ k₀ at k = count - k
 
 loop-holds : tie.Need-loop-holds Inv-loop μ-loop
 loop-holds c = search needs
 
-rest-of-requires : tie.Need-rest-of-requires Inv-loop μ-loop
-rest-of-requires c κs = search needs
-
-parse-tls-raw-record-requires : tie.Need-parse-tls-raw-record-requires Inv-loop μ-loop
-parse-tls-raw-record-requires c κs = search needs
-
-enum-told : tie.Need-enum-told Inv-loop μ-loop
-enum-told c = search needs
-
-returns : tie.Need-returns Inv-loop μ-loop
-returns c = search needs
+record-from-requires : tie.Need-record-from-requires Inv-loop μ-loop
+record-from-requires c κs = search needs
 
 enum-known-record : tie.Need-enum-known-record Inv-loop μ-loop
 enum-known-record c = search needs
 
+add-say-record : tie.Need-add-say-record Inv-loop μ-loop
+add-say-record c = search needs
+
 say-record-requires : tie.Need-say-record-requires Inv-loop μ-loop
 say-record-requires c κs = search needs
+
+enum-told : tie.Need-enum-told Inv-loop μ-loop
+enum-told c = search needs
 
 add-k : tie.Need-add-k Inv-loop μ-loop
 add-k c = search needs
@@ -40,8 +37,8 @@ loop-less c = search needs
 loop-again : tie.Need-loop-again Inv-loop μ-loop
 loop-again c = search needs
 
-returns-2 : tie.Need-returns-2 Inv-loop μ-loop
-returns-2 c = search needs
+returns : tie.Need-returns Inv-loop μ-loop
+returns c = search needs
 
 pub say-records-spec : {M : Type 1} → statement M
 say-records-spec =
@@ -50,13 +47,12 @@ say-records-spec =
     Inv-loop
     μ-loop
     loop-holds
-    rest-of-requires
-    parse-tls-raw-record-requires
-    enum-told
-    returns
+    record-from-requires
     enum-known-record
+    add-say-record
     say-record-requires
+    enum-told
     add-k
     loop-less
     loop-again
-    returns-2)
+    returns)

@@ -23,13 +23,13 @@ tell-message-requires : tie.Need-tell-message-requires
 tell-message-requires c κs = search needs
 
 returns : tie.Need-returns
-returns c = none-told _ _ (case serverSays (c .before .before .before .before .parse-tls-handshake-server-hello .ensures) (c .before .before .r .given .1)) (c .refusal-number .ensures)
+returns c = none-told _ _ (case serverSays (c .before .before .before .before .parse-tls-handshake-server-hello .ensures .0) (c .before .before .r .given .1)) (c .refusal-number .ensures)
 
 same-length : tie.Need-same-length
 same-length c = search needs
 
 returns-2 : tie.Need-returns-2
-returns-2 c = all-told _ _ (case serverSays (c .before .before .before .before .before .before .before .parse-tls-handshake-server-hello .ensures) (c .before .before .before .before .before .c .given .1)) (c .before .before .tell-message .ensures)
+returns-2 c = all-told _ _ (case serverSays (c .before .before .before .before .before .before .before .parse-tls-handshake-server-hello .ensures .0) (c .before .before .before .before .before .c .given .1)) (c .before .before .tell-message .ensures)
 
 pub norrabist-parse-tls-handshake-server-hello-spec : {M : Type 1} → statement M
 norrabist-parse-tls-handshake-server-hello-spec =

@@ -5,10 +5,10 @@ use Rattle.rows.proofs.cert_rows.say_names.Statement.{statement}
 use Rattle.rows.proofs.cert_rows.say_names.Tie as tie
 
 abbrev Inv-loop : tie.InvT-loop
-Inv-loop s c list count at₀ k₀ t9 at k = Unit
+Inv-loop s c list count at₀ k₀ t11 at k = Unit
 
 abbrev μ-loop : tie.MeasureT-loop
-μ-loop s c list count at₀ k₀ t9 at k = count - k
+μ-loop s c list count at₀ k₀ t11 at k = count - k
 
 part-of-requires : tie.Need-part-of-requires Inv-loop μ-loop
 part-of-requires c κs = search needs
@@ -39,6 +39,12 @@ ca-from-requires c κs = search needs
 
 say-part-requires : tie.Need-say-part-requires Inv-loop μ-loop
 say-part-requires c κs = search needs
+
+enum-known-a : tie.Need-enum-known-a Inv-loop μ-loop
+enum-known-a c = search needs
+
+enum-told : tie.Need-enum-told Inv-loop μ-loop
+enum-told c = search needs
 
 add-k : tie.Need-add-k Inv-loop μ-loop
 add-k c = search needs
@@ -80,6 +86,8 @@ say-names-spec =
     loop-holds
     ca-from-requires
     say-part-requires
+    enum-known-a
+    enum-told
     add-k
     loop-less
     loop-again

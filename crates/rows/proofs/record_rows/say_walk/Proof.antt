@@ -5,10 +5,10 @@ use Rattle.rows.proofs.record_rows.say_walk.Statement.{statement}
 use Rattle.rows.proofs.record_rows.say_walk.Tie as tie
 
 abbrev Inv-loop : tie.InvT-loop
-Inv-loop content count walk₀ k₀ t7 t8 walk k = Unit
+Inv-loop content count walk₀ k₀ t8 t9 walk k = Unit
 
 abbrev μ-loop : tie.MeasureT-loop
-μ-loop content count walk₀ k₀ t7 t8 walk k = count - k
+μ-loop content count walk₀ k₀ t8 t9 walk k = count - k
 
 slice-aggregate-text : tie.Need-slice-aggregate-text Inv-loop μ-loop
 slice-aggregate-text c = search needs
@@ -22,6 +22,9 @@ new-requires c κs = search needs
 loop-holds : tie.Need-loop-holds Inv-loop μ-loop
 loop-holds c = search needs
 
+next-requires : tie.Need-next-requires Inv-loop μ-loop
+next-requires c κs = search needs
+
 say-next-requires : tie.Need-say-next-requires Inv-loop μ-loop
 say-next-requires c κs = search needs
 
@@ -33,9 +36,6 @@ loop-less c = search needs
 
 loop-again : tie.Need-loop-again Inv-loop μ-loop
 loop-again c = search needs
-
-say-next-requires-2 : tie.Need-say-next-requires-2 Inv-loop μ-loop
-say-next-requires-2 c κs = search needs
 
 slice-aggregate-text-2 : tie.Need-slice-aggregate-text-2 Inv-loop μ-loop
 slice-aggregate-text-2 c = search needs
@@ -65,11 +65,11 @@ say-walk-spec =
     text-requires
     new-requires
     loop-holds
+    next-requires
     say-next-requires
     add-k
     loop-less
     loop-again
-    say-next-requires-2
     slice-aggregate-text-2
     text-requires-2
     number-requires

@@ -5,14 +5,32 @@ use borrow.Author.Needs.{needs}
 use Rattle.runs.proofs.writers.client.Statement.{statement}
 use Rattle.runs.proofs.writers.client.Tie as tie
 
-fresh-requires : tie.Need-fresh-requires
-fresh-requires c κs = search needs
+slice-aggregate-say : tie.Need-slice-aggregate-say
+slice-aggregate-say c = search needs
 
-slice-relend-prefix-gen-tls-clienthello : tie.Need-slice-relend-prefix-gen-tls-clienthello
-slice-relend-prefix-gen-tls-clienthello c = search needs
+say-requires : tie.Need-say-requires
+say-requires c κs = search needs
+
+say-number-requires : tie.Need-say-number-requires
+say-number-requires c κs = search needs
+
+say-number-requires-2 : tie.Need-say-number-requires-2
+say-number-requires-2 c κs = search needs
+
+say-number-requires-3 : tie.Need-say-number-requires-3
+say-number-requires-3 c κs = search needs
+
+say-number-requires-4 : tie.Need-say-number-requires-4
+say-number-requires-4 c κs = search needs
+
+say-number-requires-5 : tie.Need-say-number-requires-5
+say-number-requires-5 c κs = search needs
+
+array-borrow-prefix-out : tie.Need-array-borrow-prefix-out
+array-borrow-prefix-out c = search needs
 
 slice-aggregate-gen-tls-clienthello : tie.Need-slice-aggregate-gen-tls-clienthello
-slice-aggregate-gen-tls-clienthello c = sym (length-take-le _ _ (slice-relend-prefix-gen-tls-clienthello (c .before)))
+slice-aggregate-gen-tls-clienthello c = sym (length-take-le _ _ (array-borrow-prefix-out (c .before)))
 
 gen-tls-clienthello-requires : tie.Need-gen-tls-clienthello-requires
 gen-tls-clienthello-requires c κs = search needs
@@ -20,14 +38,8 @@ gen-tls-clienthello-requires c κs = search needs
 say-answer-requires : tie.Need-say-answer-requires
 say-answer-requires c κs = search needs
 
-same-length : tie.Need-same-length
-same-length c = search needs
-
 returns : tie.Need-returns
 returns c = search needs
-
-same-length-2 : tie.Need-same-length-2
-same-length-2 c = search needs
 
 returns-2 : tie.Need-returns-2
 returns-2 c = search needs
@@ -36,12 +48,16 @@ pub client-spec : {M : Type 1} → statement M
 client-spec =
     tie.close
     (tie.spec
-    fresh-requires
-    slice-relend-prefix-gen-tls-clienthello
+    slice-aggregate-say
+    say-requires
+    say-number-requires
+    say-number-requires-2
+    say-number-requires-3
+    say-number-requires-4
+    say-number-requires-5
+    array-borrow-prefix-out
     slice-aggregate-gen-tls-clienthello
     gen-tls-clienthello-requires
     say-answer-requires
-    same-length
     returns
-    same-length-2
     returns-2)

@@ -5,9 +5,6 @@ use borrow.Author.Needs.{needs}
 use Rattle.runs.proofs.writers.draft18.Statement.{statement}
 use Rattle.runs.proofs.writers.draft18.Tie as tie
 
-fresh-requires : tie.Need-fresh-requires
-fresh-requires c κs = search needs
-
 slice-aggregate-say : tie.Need-slice-aggregate-say
 slice-aggregate-say c = search needs
 
@@ -20,18 +17,11 @@ say-number-requires c κs = search needs
 say-number-requires-2 : tie.Need-say-number-requires-2
 say-number-requires-2 c κs = search needs
 
-from-front-requires : tie.Need-from-front-requires
-from-front-requires c κs = search needs
-
-from-front-requires-2 : tie.Need-from-front-requires-2
-from-front-requires-2 c κs = search needs
-
-slice-relend-prefix-gen-tls-serverhellodraft18 :
-    tie.Need-slice-relend-prefix-gen-tls-serverhellodraft18
-slice-relend-prefix-gen-tls-serverhellodraft18 c = search needs
+array-borrow-prefix-out : tie.Need-array-borrow-prefix-out
+array-borrow-prefix-out c = search needs
 
 slice-aggregate-gen-tls-serverhellodraft18 : tie.Need-slice-aggregate-gen-tls-serverhellodraft18
-slice-aggregate-gen-tls-serverhellodraft18 c = sym (length-take-le _ _ (slice-relend-prefix-gen-tls-serverhellodraft18 (c .before)))
+slice-aggregate-gen-tls-serverhellodraft18 c = sym (length-take-le _ _ (array-borrow-prefix-out (c .before)))
 
 gen-tls-serverhellodraft18-requires : tie.Need-gen-tls-serverhellodraft18-requires
 gen-tls-serverhellodraft18-requires c κs = search needs
@@ -39,14 +29,8 @@ gen-tls-serverhellodraft18-requires c κs = search needs
 say-answer-requires : tie.Need-say-answer-requires
 say-answer-requires c κs = search needs
 
-same-length : tie.Need-same-length
-same-length c = search needs
-
 returns : tie.Need-returns
 returns c = search needs
-
-same-length-2 : tie.Need-same-length-2
-same-length-2 c = search needs
 
 returns-2 : tie.Need-returns-2
 returns-2 c = search needs
@@ -55,18 +39,13 @@ pub draft18-spec : {M : Type 1} → statement M
 draft18-spec =
     tie.close
     (tie.spec
-    fresh-requires
     slice-aggregate-say
     say-requires
     say-number-requires
     say-number-requires-2
-    from-front-requires
-    from-front-requires-2
-    slice-relend-prefix-gen-tls-serverhellodraft18
+    array-borrow-prefix-out
     slice-aggregate-gen-tls-serverhellodraft18
     gen-tls-serverhellodraft18-requires
     say-answer-requires
-    same-length
     returns
-    same-length-2
     returns-2)

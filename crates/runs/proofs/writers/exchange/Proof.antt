@@ -5,9 +5,6 @@ use borrow.Author.Needs.{needs}
 use Rattle.runs.proofs.writers.exchange.Statement.{statement}
 use Rattle.runs.proofs.writers.exchange.Tie as tie
 
-fresh-requires : tie.Need-fresh-requires
-fresh-requires c κs = search needs
-
 slice-aggregate-say : tie.Need-slice-aggregate-say
 slice-aggregate-say c = search needs
 
@@ -17,12 +14,11 @@ say-requires c κs = search needs
 say-requires-2 : tie.Need-say-requires-2
 say-requires-2 c κs = search needs
 
-slice-relend-prefix-gen-tls-clientkeyexchange :
-    tie.Need-slice-relend-prefix-gen-tls-clientkeyexchange
-slice-relend-prefix-gen-tls-clientkeyexchange c = search needs
+array-borrow-prefix-out : tie.Need-array-borrow-prefix-out
+array-borrow-prefix-out c = search needs
 
 slice-aggregate-gen-tls-clientkeyexchange : tie.Need-slice-aggregate-gen-tls-clientkeyexchange
-slice-aggregate-gen-tls-clientkeyexchange c = sym (length-take-le _ _ (slice-relend-prefix-gen-tls-clientkeyexchange (c .before)))
+slice-aggregate-gen-tls-clientkeyexchange c = sym (length-take-le _ _ (array-borrow-prefix-out (c .before)))
 
 gen-tls-clientkeyexchange-requires : tie.Need-gen-tls-clientkeyexchange-requires
 gen-tls-clientkeyexchange-requires c κs = search needs
@@ -30,14 +26,8 @@ gen-tls-clientkeyexchange-requires c κs = search needs
 say-answer-requires : tie.Need-say-answer-requires
 say-answer-requires c κs = search needs
 
-same-length : tie.Need-same-length
-same-length c = search needs
-
 returns : tie.Need-returns
 returns c = search needs
-
-same-length-2 : tie.Need-same-length-2
-same-length-2 c = search needs
 
 returns-2 : tie.Need-returns-2
 returns-2 c = search needs
@@ -46,15 +36,12 @@ pub exchange-spec : {M : Type 1} → statement M
 exchange-spec =
     tie.close
     (tie.spec
-    fresh-requires
     slice-aggregate-say
     say-requires
     say-requires-2
-    slice-relend-prefix-gen-tls-clientkeyexchange
+    array-borrow-prefix-out
     slice-aggregate-gen-tls-clientkeyexchange
     gen-tls-clientkeyexchange-requires
     say-answer-requires
-    same-length
     returns
-    same-length-2
     returns-2)

@@ -5,9 +5,6 @@ use borrow.Author.Needs.{needs}
 use Rattle.runs.proofs.writers.finished.Statement.{statement}
 use Rattle.runs.proofs.writers.finished.Tie as tie
 
-fresh-requires : tie.Need-fresh-requires
-fresh-requires c κs = search needs
-
 slice-aggregate-say : tie.Need-slice-aggregate-say
 slice-aggregate-say c = search needs
 
@@ -20,11 +17,11 @@ say-number-requires c κs = search needs
 say-number-requires-2 : tie.Need-say-number-requires-2
 say-number-requires-2 c κs = search needs
 
-slice-relend-prefix-gen-tls-finished : tie.Need-slice-relend-prefix-gen-tls-finished
-slice-relend-prefix-gen-tls-finished c = search needs
+array-borrow-prefix-out : tie.Need-array-borrow-prefix-out
+array-borrow-prefix-out c = search needs
 
 slice-aggregate-gen-tls-finished : tie.Need-slice-aggregate-gen-tls-finished
-slice-aggregate-gen-tls-finished c = sym (length-take-le _ _ (slice-relend-prefix-gen-tls-finished (c .before)))
+slice-aggregate-gen-tls-finished c = sym (length-take-le _ _ (array-borrow-prefix-out (c .before)))
 
 gen-tls-finished-requires : tie.Need-gen-tls-finished-requires
 gen-tls-finished-requires c κs = search needs
@@ -32,14 +29,8 @@ gen-tls-finished-requires c κs = search needs
 say-answer-requires : tie.Need-say-answer-requires
 say-answer-requires c κs = search needs
 
-same-length : tie.Need-same-length
-same-length c = search needs
-
 returns : tie.Need-returns
 returns c = search needs
-
-same-length-2 : tie.Need-same-length-2
-same-length-2 c = search needs
 
 returns-2 : tie.Need-returns-2
 returns-2 c = search needs
@@ -48,16 +39,13 @@ pub finished-spec : {M : Type 1} → statement M
 finished-spec =
     tie.close
     (tie.spec
-    fresh-requires
     slice-aggregate-say
     say-requires
     say-number-requires
     say-number-requires-2
-    slice-relend-prefix-gen-tls-finished
+    array-borrow-prefix-out
     slice-aggregate-gen-tls-finished
     gen-tls-finished-requires
     say-answer-requires
-    same-length
     returns
-    same-length-2
     returns-2)

@@ -5,20 +5,17 @@ use borrow.Author.Needs.{needs}
 use Rattle.runs.proofs.writers.request.Statement.{statement}
 use Rattle.runs.proofs.writers.request.Tie as tie
 
-fresh-requires : tie.Need-fresh-requires
-fresh-requires c κs = search needs
-
 slice-aggregate-say : tie.Need-slice-aggregate-say
 slice-aggregate-say c = search needs
 
 say-requires : tie.Need-say-requires
 say-requires c κs = search needs
 
-slice-relend-prefix-gen-tls-hellorequest : tie.Need-slice-relend-prefix-gen-tls-hellorequest
-slice-relend-prefix-gen-tls-hellorequest c = search needs
+array-borrow-prefix-out : tie.Need-array-borrow-prefix-out
+array-borrow-prefix-out c = search needs
 
 slice-aggregate-gen-tls-hellorequest : tie.Need-slice-aggregate-gen-tls-hellorequest
-slice-aggregate-gen-tls-hellorequest c = sym (length-take-le _ _ (slice-relend-prefix-gen-tls-hellorequest (c .before)))
+slice-aggregate-gen-tls-hellorequest c = sym (length-take-le _ _ (array-borrow-prefix-out (c .before)))
 
 gen-tls-hellorequest-requires : tie.Need-gen-tls-hellorequest-requires
 gen-tls-hellorequest-requires c κs = search needs
@@ -26,14 +23,8 @@ gen-tls-hellorequest-requires c κs = search needs
 say-answer-requires : tie.Need-say-answer-requires
 say-answer-requires c κs = search needs
 
-same-length : tie.Need-same-length
-same-length c = search needs
-
 returns : tie.Need-returns
 returns c = search needs
-
-same-length-2 : tie.Need-same-length-2
-same-length-2 c = search needs
 
 returns-2 : tie.Need-returns-2
 returns-2 c = search needs
@@ -42,14 +33,11 @@ pub request-spec : {M : Type 1} → statement M
 request-spec =
     tie.close
     (tie.spec
-    fresh-requires
     slice-aggregate-say
     say-requires
-    slice-relend-prefix-gen-tls-hellorequest
+    array-borrow-prefix-out
     slice-aggregate-gen-tls-hellorequest
     gen-tls-hellorequest-requires
     say-answer-requires
-    same-length
     returns
-    same-length-2
     returns-2)

@@ -5,15 +5,18 @@ use mathlib.Core.Bool.{true, false}
 use mathlib.Core.List.{List}
 use mathlib.Core.Option.{some}
 use borrow.Author.Tests.{ne-eqb}
+use denote.Ref.{now}
 use Rattle.refusal.specs.Answers.{Answer}
 use Rattle.refusal.proofs.Told.{case}
 use Rattle.wire.specs.Numbers.{numberAt, numberSays}
 use Rattle.wire.specs.declared.number.Number.{Number}
 use Rattle.wire.specs.declared.number.NumberAnswer.{NumberAnswer}
 use Rattle.wire.specs.declared.number.NumberAnswer.the-variants.{Got}
+use Rattle.grammar.specs.Demand3.{ByVersion}
 use Rattle.grammar.specs.Forms.{Form, reading}
 use Rattle.grammar.specs.Versions.{byVersion}
 use Rattle.server.specs.Server.{server, serverVersions}
+use Rattle.server.proofs.Whole.{demand3}
 use Rattle.server.specs.declared.tlsv12.TlsServerHelloContents.{TlsServerHelloContents}
 use borrow.Author.Needs.{needs}
 use Rattle.server.proofs.tlsv12.parse_tls_handshake_server_hello.Statement.{statement}
@@ -24,6 +27,10 @@ read-by : (s : List ℕ) {a : NumberAnswer} {n : Number} {x : Answer TlsServerHe
 unfolding byVersion
 read-by s k e g l r = rw (case numberSays e g, l) r
 
+-- what was lent is bytes, a fact of the slice's type, so that demand 3 holds of it
+announced : (c : tie.After-shared-slice-known) → ByVersion serverVersions (now (c .before .args .i))
+announced c = demand3 _ (λ n. c .shared-slice-known .given n .fits) .byItsVersion
+
 parse-be-requires : tie.Need-parse-be-requires
 parse-be-requires c κs = search needs
 
@@ -32,7 +39,10 @@ enum-known-r c = search needs
 
 returns : tie.Need-returns
 unfolding byVersion
-returns c = rw (case numberSays (c .before .before .before .parse-be .ensures .0) (c .before .r .given .1))
+returns c = (
+  rw (case numberSays (c .before .before .before .parse-be .ensures .0) (c .before .r .given .1)),
+  announced (c .before .before .before .before),
+)
 
 enum-known-n : tie.Need-enum-known-n
 enum-known-n c = search needs
@@ -53,24 +63,42 @@ refuse-requires : tie.Need-refuse-requires
 refuse-requires c κs = search needs
 
 returns-2 : tie.Need-returns-2
-returns-2 c = let g = c .before .before .before in read-by _ (server true) (g .before .before .parse-be .ensures .0) (g .n .given .1) (rw (c .before .match2 .keys1)) (c .parse-tls-server-hello-tlsv12 .ensures)
+returns-2 c =
+    let g = c .before .before .before in (
+      read-by _ (server true) (g .before .before .parse-be .ensures .0) (g .n .given .1) (rw (c .before .match2 .keys1)) (c .parse-tls-server-hello-tlsv12 .ensures .0),
+      announced (g .before .before .before),
+    )
 
 returns-3 : tie.Need-returns-3
-returns-3 c = let g = c .before .before .before in read-by _ (server true) (g .before .before .parse-be .ensures .0) (g .n .given .1) (rw (c .before .match2 .keys2)) (c .parse-tls-server-hello-tlsv122 .ensures)
+returns-3 c =
+    let g = c .before .before .before in (
+      read-by _ (server true) (g .before .before .parse-be .ensures .0) (g .n .given .1) (rw (c .before .match2 .keys2)) (c .parse-tls-server-hello-tlsv122 .ensures .0),
+      announced (g .before .before .before),
+    )
 
 returns-4 : tie.Need-returns-4
-returns-4 c = let g = c .before .before .before in read-by _ (server true) (g .before .before .parse-be .ensures .0) (g .n .given .1) (rw (c .before .match2 .keys3)) (c .parse-tls-server-hello-tlsv123 .ensures)
+returns-4 c =
+    let g = c .before .before .before in (
+      read-by _ (server true) (g .before .before .parse-be .ensures .0) (g .n .given .1) (rw (c .before .match2 .keys3)) (c .parse-tls-server-hello-tlsv123 .ensures .0),
+      announced (g .before .before .before),
+    )
 
 returns-5 : tie.Need-returns-5
-returns-5 c = let g = c .before .before .before in read-by _ (server false) (g .before .before .parse-be .ensures .0) (g .n .given .1) (rw (c .before .match2 .keys4)) (c .parse-tls-server-hello-tlsv124 .ensures)
+returns-5 c =
+    let g = c .before .before .before in (
+      read-by _ (server false) (g .before .before .parse-be .ensures .0) (g .n .given .1) (rw (c .before .match2 .keys4)) (c .parse-tls-server-hello-tlsv124 .ensures .0),
+      announced (g .before .before .before),
+    )
 
 returns-6 : tie.Need-returns-6
 unfolding byVersion
 returns-6 c =
     let g = c .before .before .before in
     let m = c .before .match2 .rest in
-    let v = g .n .given .0 .0 .value in
-    rw (case numberSays (g .before .before .parse-be .ensures .0) (g .n .given .1), ne-eqb v 0x0303 (m .0 .0 .0 .1), ne-eqb v 0x0302 (m .0 .0 .1), ne-eqb v 0x0301 (m .0 .1), ne-eqb v 0x0300 (m .1), c .refuse .ensures)
+    let v = g .n .given .0 .0 .value in (
+      rw (case numberSays (g .before .before .parse-be .ensures .0) (g .n .given .1), ne-eqb v 0x0303 (m .0 .0 .0 .1), ne-eqb v 0x0302 (m .0 .0 .1), ne-eqb v 0x0301 (m .0 .1), ne-eqb v 0x0300 (m .1), c .refuse .ensures),
+      announced (g .before .before .before),
+    )
 
 pub parse-tls-handshake-server-hello-spec : {M : Type 1} → statement M
 parse-tls-handshake-server-hello-spec =

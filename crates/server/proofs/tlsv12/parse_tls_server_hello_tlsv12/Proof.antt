@@ -10,10 +10,12 @@ use Rattle.wire.specs.Numbers.{numberSays}
 use Rattle.wire.proofs.Numbers.{number-value, below-limit}
 use Rattle.field.proofs.Rules.{number-field, number-field-no}
 use Rattle.grammar.specs.Hellos.{cipher, compression}
+use Rattle.grammar.specs.Demand3.{BySplit}
 use Rattle.grammar.specs.Forms.{reading}
 use Rattle.grammar.proofs.Chain.{So, begin, and, stop, stop-all, end}
 use Rattle.hello.specs.Start.{startSays}
 use Rattle.server.specs.Server.{server}
+use Rattle.server.proofs.Whole.{demand3}
 use Rattle.hello.proofs.Begun.{startFields, Begun, begun, not-begun, after}
 use borrow.Author.Needs.{needs}
 use Rattle.server.proofs.tlsv12.parse_tls_server_hello_tlsv12.Statement.{statement}
@@ -50,6 +52,19 @@ E3 c = E2 (c .before .before .before .before)
 abbrev at3 : (c : tie.After-n2) → So (reading (server (E3 c)) (S3 c)) (S3 c) []
 at3 c = and (at2 (c .before .before .before .before)) (number-field 1 _ _ (case numberSays (c .before .before .parse-be2 .ensures .0) (c .n2 .given .1)))
 
+-- what was lent is bytes, a fact of the slice's type, so that demand 3 holds of it
+split : (c : tie.After-shared-slice-known) → BySplit (server (c .before .args .has-ext)) (now (c .before .args .i))
+split c = demand3 _ (λ n. c .shared-slice-known .given n .fits) .serverHello (c .before .args .has-ext)
+
+split1 : (c : tie.After-s) → BySplit (server (E1 c)) (S1 c)
+split1 c = split (c .before .before .before)
+
+split2 : (c : tie.After-n) → BySplit (server (E2 c)) (S2 c)
+split2 c = split1 (c .before .before .before .before)
+
+split3 : (c : tie.After-n2) → BySplit (server (E3 c)) (S3 c)
+split3 c = split2 (c .before .before .before .before)
+
 parse-start-requires : tie.Need-parse-start-requires
 parse-start-requires c κs = search needs
 
@@ -58,8 +73,10 @@ enum-known-r c = search needs
 
 returns : tie.Need-returns
 returns c =
-    let a = c .before .before .before .before .before .args in
-    sym (stop-all startFields (cipher ∷ compression ∷ []) (begin (server (a .has-ext)) (now (a .i))) (not-begun _ (case startSays (c .before .before .before .parse-start .ensures) (c .before .r .given .1))))
+    let a = c .before .before .before .before .before .args in (
+      sym (stop-all startFields (cipher ∷ compression ∷ []) (begin (server (a .has-ext)) (now (a .i))) (not-begun _ (case startSays (c .before .before .before .parse-start .ensures) (c .before .r .given .1)))),
+      split (c .before .before .before .before),
+    )
 
 enum-known-s : tie.Need-enum-known-s
 enum-known-s c = search needs
@@ -71,7 +88,10 @@ enum-known-r-2 : tie.Need-enum-known-r-2
 enum-known-r-2 c = search needs
 
 returns-2 : tie.Need-returns-2
-returns-2 c = sym (stop (at1 (c .before .before .before .before .before)) (number-field-no 2 _ _ (case numberSays (c .before .before .before .parse-be .ensures .0) (c .before .r2 .given .1))))
+returns-2 c = (
+  sym (stop (at1 (c .before .before .before .before .before)) (number-field-no 2 _ _ (case numberSays (c .before .before .before .parse-be .ensures .0) (c .before .r2 .given .1)))),
+  split1 (c .before .before .before .before .before),
+)
 
 enum-known-n : tie.Need-enum-known-n
 enum-known-n c = search needs
@@ -83,7 +103,10 @@ enum-known-r-3 : tie.Need-enum-known-r-3
 enum-known-r-3 c = search needs
 
 returns-3 : tie.Need-returns-3
-returns-3 c = sym (stop (at2 (c .before .before .before .before .before)) (number-field-no 1 _ _ (case numberSays (c .before .before .before .parse-be2 .ensures .0) (c .before .r3 .given .1))))
+returns-3 c = (
+  sym (stop (at2 (c .before .before .before .before .before)) (number-field-no 1 _ _ (case numberSays (c .before .before .before .parse-be2 .ensures .0) (c .before .r3 .given .1)))),
+  split2 (c .before .before .before .before .before),
+)
 
 enum-known-n-2 : tie.Need-enum-known-n-2
 enum-known-n-2 c = search needs
@@ -107,8 +130,10 @@ returns-4 c =
     let g = f .before .before .before .before in
     let b = b1 (g .before .before .before .before) in
     let m = number-value 2 _ _ (case numberSays (g .before .before .parse-be .ensures .0) (g .n .given .1)) in
-    let n = number-value 1 _ _ (case numberSays (f .before .before .parse-be2 .ensures .0) (f .n2 .given .1)) in
-    sym (end (at3 f) ∙ rw (b .version, b .random, b .id, m, n, c .before .before .before .extensions .ensures))
+    let n = number-value 1 _ _ (case numberSays (f .before .before .parse-be2 .ensures .0) (f .n2 .given .1)) in (
+      sym (end (at3 f) ∙ rw (b .version, b .random, b .id, m, n, c .before .before .before .extensions .ensures)),
+      split3 f,
+    )
 
 pub parse-tls-server-hello-tlsv12-spec : {M : Type 1} → statement M
 parse-tls-server-hello-tlsv12-spec =

@@ -10,9 +10,11 @@ use Rattle.wire.specs.Numbers.{numberSays}
 use Rattle.wire.proofs.Numbers.{number-value, below-limit}
 use Rattle.field.proofs.Rules.{number-field, number-field-no}
 use Rattle.grammar.specs.Hellos.{random, cipher}
+use Rattle.grammar.specs.Demand3.{BySplit}
 use Rattle.grammar.specs.Forms.{reading}
 use Rattle.grammar.proofs.Chain.{So, begin, and, stop, end}
 use Rattle.server.specs.Draft18.{draft18}
+use Rattle.server.proofs.Whole.{demand3}
 use borrow.Author.Needs.{needs}
 use Rattle.server.proofs.tlsv13draft18.parse_tls_server_hello_tlsv13draft18.Statement.{statement}
 use Rattle.server.proofs.tlsv13draft18.parse_tls_server_hello_tlsv13draft18.Tie as tie
@@ -36,6 +38,19 @@ S3 c = S2 (c .before .before .before .before)
 abbrev at3 : (c : tie.After-n2) → So (reading draft18 (S3 c)) (S3 c) []
 at3 c = and (at2 (c .before .before .before .before)) (number-field 2 _ _ (case numberSays (c .before .before .parse-be2 .ensures .0) (c .n2 .given .1)))
 
+-- what was lent is bytes, a fact of the slice's type, so that demand 3 holds of it
+split : (c : tie.After-shared-slice-known) → BySplit draft18 (now (c .before .args .i))
+split c = demand3 _ (λ n. c .shared-slice-known .given n .fits) .draft18Hello
+
+split1 : (c : tie.After-n) → BySplit draft18 (S1 c)
+split1 c = split (c .before .before .before)
+
+split2 : (c : tie.After-p) → BySplit draft18 (S2 c)
+split2 c = split1 (c .before .before .before .before)
+
+split3 : (c : tie.After-n2) → BySplit draft18 (S3 c)
+split3 c = split2 (c .before .before .before .before)
+
 parse-be-requires : tie.Need-parse-be-requires
 parse-be-requires c κs = search needs
 
@@ -43,7 +58,10 @@ enum-known-r : tie.Need-enum-known-r
 enum-known-r c = search needs
 
 returns : tie.Need-returns
-returns c = sym (stop (begin draft18 _) (number-field-no 2 _ _ (case numberSays (c .before .before .before .parse-be .ensures .0) (c .before .r .given .1))))
+returns c = (
+  sym (stop (begin draft18 _) (number-field-no 2 _ _ (case numberSays (c .before .before .before .parse-be .ensures .0) (c .before .r .given .1)))),
+  split (c .before .before .before .before),
+)
 
 enum-known-n : tie.Need-enum-known-n
 enum-known-n c = search needs
@@ -55,7 +73,10 @@ enum-known-r-2 : tie.Need-enum-known-r-2
 enum-known-r-2 c = search needs
 
 returns-2 : tie.Need-returns-2
-returns-2 c = sym (stop (at1 (c .before .before .before .before .before)) (case partSays (c .before .before .before .take .ensures) (c .before .r2 .given .1)))
+returns-2 c = (
+  sym (stop (at1 (c .before .before .before .before .before)) (case partSays (c .before .before .before .take .ensures) (c .before .r2 .given .1))),
+  split1 (c .before .before .before .before .before),
+)
 
 enum-known-p : tie.Need-enum-known-p
 enum-known-p c = search needs
@@ -67,7 +88,10 @@ enum-known-r-3 : tie.Need-enum-known-r-3
 enum-known-r-3 c = search needs
 
 returns-3 : tie.Need-returns-3
-returns-3 c = sym (stop (at2 (c .before .before .before .before .before)) (number-field-no 2 _ _ (case numberSays (c .before .before .before .parse-be2 .ensures .0) (c .before .r3 .given .1))))
+returns-3 c = (
+  sym (stop (at2 (c .before .before .before .before .before)) (number-field-no 2 _ _ (case numberSays (c .before .before .before .parse-be2 .ensures .0) (c .before .r3 .given .1)))),
+  split2 (c .before .before .before .before .before),
+)
 
 enum-known-n-2 : tie.Need-enum-known-n-2
 enum-known-n-2 c = search needs
@@ -91,7 +115,7 @@ returns-4 c =
     let g = f .before .before .before .before .before .before .before .before in
     let m = number-value 2 _ _ (case numberSays (g .before .before .parse-be .ensures .0) (g .n .given .1)) in
     let n = number-value 2 _ _ (case numberSays (f .before .before .parse-be2 .ensures .0) (f .n2 .given .1)) in
-    sym (end (at3 f) ∙ rw (m, n, c .before .before .before .opt-length-data .ensures))
+    (sym (end (at3 f) ∙ rw (m, n, c .before .before .before .opt-length-data .ensures)), split3 f)
 
 pub parse-tls-server-hello-tlsv13draft18-spec : {M : Type 1} → statement M
 parse-tls-server-hello-tlsv13draft18-spec =

@@ -1,0 +1,105 @@
+-- `claims::all_claims` meets its contract: every claim, each by the theorem that shows it. Assumes nothing.
+use native.Mathlib.Omega.{arith}
+use Rattle.refusal.proofs.Told.{numbers-apart}
+use Rattle.wire.proofs.Parts.{one-part}
+use Rattle.wire.proofs.Numbers.{one-number, every-width}
+use Rattle.wire.proofs.Puts.{one-write}
+use Rattle.field.specs.Fields.{fixed, sized}
+use Rattle.list.proofs.Listed.{by-items}
+use Rattle.hello.proofs.Begun.{one-start}
+use Rattle.client.proofs.Whole as client
+use Rattle.server.proofs.Whole as server
+use Rattle.certs.proofs.Whole as certs
+use Rattle.chain.proofs.Same.{every-reader}
+use Rattle.body.proofs.Whole as body
+use Rattle.message.proofs.Answers.{one-message}
+use Rattle.hellos.proofs.Opened as hellos
+use Rattle.envelope.proofs.Answers.{one-head}
+use Rattle.walk.proofs.Walking.{every-walk}
+use Rattle.record.proofs.Whole as records
+use Rattle.plaintext.proofs.Answers.{one-plaintext, one-opened}
+use Rattle.capture.proofs.Captures.{same-bytes}
+use Rattle.hear.proofs.Again.{heard-again}
+use Rattle.wayback.proofs.Demand3 as back
+use Rattle.wayback.proofs.WayBack.{way-back}
+use Rattle.readings.proofs.Rows.{each-row}
+use Rattle.readcases.proofs.Readers.{every-reading}
+use Rattle.readcases.proofs.Only.{every-answer}
+use Rattle.readcases.proofs.Witnesses.{each-given}
+use Rattle.writecases.proofs.Writers.{every-writing, every-number, every-type}
+use Rattle.claims.proofs.Crossed.{header-and-record, tells-its-type}
+use Rattle.claims.proofs.all_claims.Statement.{statement}
+use Rattle.claims.proofs.all_claims.Tie as tie
+
+returns : tie.Need-returns
+returns c = record {
+  table = numbers-apart;
+  onePart = one-part;
+  oneNumber = one-number;
+  oneWrite = one-write;
+  oneStart = one-start;
+  oneClient = client.one-client;
+  oneServer = server.one-server;
+  oneDraft18 = server.one-draft18;
+  oneCertificate = certs.one-certificate;
+  oneRequest = certs.one-request;
+  oneStatus = certs.one-status;
+  oneRetry = body.one-retry;
+  oneTicket = body.one-ticket;
+  oneNextProtocol = body.one-next-protocol;
+  oneMessage = one-message;
+  oneHead = one-head;
+  oneHeader = records.one-header;
+  oneRaw = records.one-raw;
+  oneEncrypted = records.one-encrypted;
+  onePlaintext = one-plaintext;
+  oneOpened = one-opened;
+  numbers = every-width;
+  readsClient = client.demand3;
+  readsServer = λ hasExt s b. server.demand3 s b .serverHello hasExt;
+  readsDraft18 = λ s b. server.demand3 s b .draft18Hello;
+  readsByVersion = λ s b. server.demand3 s b .byItsVersion;
+  readsAsMessage = hellos.demand3;
+  writesClient = λ s b. back.demand3 .writing s b .clientHello;
+  writesServer = λ hasExt s b. back.demand3 .writing s b .serverHello hasExt;
+  writesDraft18 = λ s b. back.demand3 .writing s b .draft18Hello;
+  writesByVersion = λ s b. back.demand3 .writing s b .byItsVersion;
+  writesOneText = back.demand3 .one-text;
+  againClient = λ s b. back.demand3 .reading-again s b .clientHello;
+  againServer = λ hasExt s b. back.demand3 .reading-again s b .serverHello hasExt;
+  againDraft18 = λ s b. back.demand3 .reading-again s b .draft18Hello;
+  againByVersion = λ s b. back.demand3 .reading-again s b .byItsVersion;
+  againUnlisted = λ s b. back.demand3 .reading-again s b .unlisted;
+  lists = by-items;
+  names = by-items (sized 2) (omega arith);
+  certificates = by-items (sized 3) (omega arith);
+  methods = by-items (fixed 1) (omega arith);
+  ciphers = by-items (fixed 2) (omega arith);
+  splitsCertificate = λ s b. certs.all-bodies s b .ofCertificate;
+  splitsLong = λ s b. certs.all-bodies s b .ofLongRequest;
+  splitsShort = λ s b. certs.all-bodies s b .ofShortRequest;
+  chooses = λ s b. certs.all-bodies s b .ofRequest;
+  splitsStatus = λ s b. certs.all-bodies s b .ofStatus;
+  splitsRetry = λ s b. body.all-bodies s b .ofRetry;
+  splitsNextProtocol = λ s b. body.all-bodies s b .ofNextProtocol;
+  ticket = λ n s b. body.all-bodies s b .ofTicket n;
+  splitsRecord = records.all-records;
+  walks = every-walk;
+  readers = every-reader;
+  sameBytes = same-bytes;
+  wayBack = way-back;
+  heardAgain = heard-again;
+  header = header-and-record;
+  kinds = tells-its-type;
+  paperRows = each-row .0;
+  otherRows = each-row .1;
+  readersSay = every-reading;
+  readersGive = every-answer;
+  eachGiven = each-given;
+  writersSay = every-writing;
+  writersGive = every-number;
+  writersType = every-type;
+}
+
+pub all-claims-spec : {M : Type 1} → statement M
+all-claims-spec = tie.close (tie.spec returns)

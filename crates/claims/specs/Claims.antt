@@ -1,0 +1,140 @@
+-- Everything that is claimed beyond the contracts of single functions: one field for each theorem. `claims::all_claims` promises them all,
+-- so that none can go missing.
+use Prim.Native.Nat.{ℕ, _≤_}
+use mathlib.Core.Path.{_≡_}
+use mathlib.Core.Bool.{Bool}
+use mathlib.Core.List.{List}
+use mathlib.Core.Option.{some}
+use lib.ListN.{getD}
+use denote.Ref.{RefT}
+use Rattle.refusal.specs.Refusals.{NumbersApart}
+use Rattle.refusal.specs.Answers.{accepted, OneResult}
+use Rattle.wire.specs.Parts.{partOf, partSays}
+use Rattle.wire.specs.Numbers.{Bytes, numberSays, EachUndoes}
+use Rattle.wire.specs.Puts.{writeSays}
+use Rattle.wire.specs.declared.view.View.{View}
+use Rattle.field.specs.Fields.{Field, fixed, sized}
+use Rattle.field.specs.Standing.{least}
+use Rattle.grammar.specs.Demand3.{BySplit, ByVersion}
+use Rattle.list.specs.Listing.{ByItems}
+use Rattle.hello.specs.Start.{startSays}
+use Rattle.client.specs.Client.{client, clientSays}
+use Rattle.client.specs.declared.TlsClientHelloContents.{TlsClientHelloContents}
+use Rattle.server.specs.Server.{server, serverVersions, serverSays}
+use Rattle.server.specs.Draft18.{draft18, draft18Says}
+use Rattle.server.specs.declared.tlsv12.TlsServerHelloContents.{TlsServerHelloContents}
+use Rattle.server.specs.declared.tlsv13draft18.TlsServerHelloV13Draft18Contents.{TlsServerHelloV13Draft18Contents}
+use Rattle.certs.specs.Certificate.{certificate, certificateSays}
+use Rattle.certs.specs.Request.{long, short, requestSays}
+use Rattle.certs.specs.Status.{status, statusSays}
+use Rattle.certs.specs.Whole.{OfRequest}
+use Rattle.chain.specs.Chain.{SameItems}
+use Rattle.body.specs.Retry.{retry, retrySays}
+use Rattle.body.specs.Ticket.{ticketSays}
+use Rattle.body.specs.NextProtocol.{nextProtocol, nextProtocolSays}
+use Rattle.body.specs.Whole.{OfTicket}
+use Rattle.message.specs.Messages.{messageSays}
+use Rattle.message.specs.declared.handshake.TlsMessageHandshake.{TlsMessageHandshake}
+use Rattle.hellos.specs.Demand3.{AsMessage}
+use Rattle.envelope.specs.Heads.{headSays}
+use Rattle.envelope.specs.Opening.{opened}
+use Rattle.walk.specs.Walking.{Walking}
+use Rattle.record.specs.Records.{raw, headerSays, rawSays, encryptedSays}
+use Rattle.plaintext.specs.Plaintext.{plaintextSays, openedSays}
+use Rattle.capture.specs.Captures.{viewIn}
+use Rattle.tell.specs.Messages.{messageNumbers}
+use Rattle.hear.specs.Heard.{heard}
+use Rattle.hear.specs.Again.{Holds, again}
+use Rattle.genmessage.specs.Messages.{handshakeText}
+use Rattle.wayback.specs.Hellos.{WritesBack, ReadsAgain}
+use Rattle.wayback.specs.Demand3.{BackByVersion, AgainByVersion, UnlistedAgain, OneText}
+use Rattle.wayback.specs.WayBack.{WayBack}
+use Rattle.readings.specs.Readings.{rows, ownRows, AllRead}
+use Rattle.readcases.specs.Readers.{Readers, OnlyThese, EachGiven}
+use Rattle.writecases.specs.Writers.{Writers, OnlyTheirs, typeWritten}
+use Rattle.claims.specs.Crossed.{HeaderAndRecord, typeOf}
+
+-- of every list of bytes: what is lent is one by its type, which `claims::bytes_lent` promises
+abbrev pub OfBytes : (List ℕ → Type 0) → Type 0
+OfBytes P = (s : List ℕ) → Bytes s → P s
+
+pub record Claims : Type 0 where
+  -- the table of refusals: no two share a number, and none has 0
+  pub table : NumbersApart
+  -- equal numbers and equal values are one result: every answer that is an enum
+  pub onePart : OneResult partSays
+  pub oneNumber : OneResult numberSays
+  pub oneWrite : OneResult writeSays
+  pub oneStart : OneResult startSays
+  pub oneClient : OneResult clientSays
+  pub oneServer : OneResult serverSays
+  pub oneDraft18 : OneResult draft18Says
+  pub oneCertificate : OneResult certificateSays
+  pub oneRequest : OneResult requestSays
+  pub oneStatus : OneResult statusSays
+  pub oneRetry : OneResult retrySays
+  pub oneTicket : OneResult ticketSays
+  pub oneNextProtocol : OneResult nextProtocolSays
+  pub oneMessage : OneResult messageSays
+  pub oneHead : OneResult headSays
+  pub oneHeader : OneResult headerSays
+  pub oneRaw : OneResult rawSays
+  pub oneEncrypted : OneResult encryptedSays
+  pub onePlaintext : OneResult plaintextSays
+  pub oneOpened : OneResult openedSays
+  -- numbers and their bytes, of every width
+  pub numbers : (w : ℕ) → EachUndoes w
+  -- demand 3, its reading half, of the three hellos: by their grammars, a ServerHello by its version, and both as messages
+  pub readsClient : OfBytes (BySplit client)
+  pub readsServer : (hasExt : Bool) → OfBytes (BySplit (server hasExt))
+  pub readsDraft18 : OfBytes (BySplit draft18)
+  pub readsByVersion : OfBytes (ByVersion serverVersions)
+  pub readsAsMessage : (s : List ℕ) → AsMessage s
+  -- demand 3, its writing half: what was read, written back, with at most so many bytes before the tail
+  pub writesClient : OfBytes (WritesBack client 0x01 131396)
+  pub writesServer : (hasExt : Bool) → OfBytes (WritesBack (server hasExt) 0x02 65607)
+  pub writesDraft18 : OfBytes (WritesBack draft18 0x02 65573)
+  pub writesByVersion : OfBytes BackByVersion
+  pub writesOneText : OneText
+  -- what a second reading finds of a hello that was written
+  pub againClient : OfBytes (λ s. (c : TlsClientHelloContents) → ReadsAgain client s c)
+  pub againServer : (hasExt : Bool) → OfBytes (λ s. (c : TlsServerHelloContents) → ReadsAgain (server hasExt) s c)
+  pub againDraft18 : OfBytes (λ s. (c : TlsServerHelloV13Draft18Contents) → ReadsAgain draft18 s c)
+  pub againByVersion : OfBytes AgainByVersion
+  pub againUnlisted : OfBytes UnlistedAgain
+  -- lists: of every element, and those that are handed out: names, certificates, methods and types, ciphers and signature pairs
+  pub lists : (f : Field) → 1 ≤ least f → OfBytes (ByItems f)
+  pub names : OfBytes (ByItems (sized 2))
+  pub certificates : OfBytes (ByItems (sized 3))
+  pub methods : OfBytes (ByItems (fixed 1))
+  pub ciphers : OfBytes (ByItems (fixed 2))
+  -- the other bodies that hold fields, by their grammars; which form a CertificateRequest is read by; the ticket by its length
+  pub splitsCertificate : OfBytes (BySplit certificate)
+  pub splitsLong : OfBytes (BySplit long)
+  pub splitsShort : OfBytes (BySplit short)
+  pub chooses : OfBytes OfRequest
+  pub splitsStatus : OfBytes (BySplit status)
+  pub splitsRetry : OfBytes (BySplit retry)
+  pub splitsNextProtocol : OfBytes (BySplit nextProtocol)
+  pub ticket : (n : ℕ) → OfBytes (OfTicket n)
+  -- records, the walk over one, the reader that holds its list, and a part of a part as a part of the whole
+  pub splitsRecord : OfBytes (BySplit raw)
+  pub walks : (content : List ℕ) → Walking content
+  pub readers : (l : RefT (List ℕ)) → SameItems l
+  pub sameBytes : (s : List ℕ) (outer inner : View) → partOf s (viewIn s outer inner) ≡ partOf (partOf s outer) inner
+  -- what reading finds of what was written, and hearing of what was told
+  pub wayBack : WayBack
+  pub heardAgain : (m : TlsMessageHandshake) → Holds m → heard (messageNumbers m) ≡ again m
+  -- rules said a second time: the header and the record, types and kinds, document 01's rows and our own
+  pub header : (s : List ℕ) → HeaderAndRecord s
+  pub kinds : (kind n : ℕ) (s : List ℕ) (m : TlsMessageHandshake) → opened kind n s ≡ accepted m → typeOf m ≡ kind
+  pub paperRows : AllRead rows
+  pub otherRows : AllRead ownRows
+  -- "Each is given only then": the number of every reader and writer by places and lengths, which numbers each gives and that it gives
+  -- them, and the type that a written message begins with
+  pub readersSay : (s : List ℕ) → Readers s
+  pub readersGive : (s : List ℕ) → OnlyThese s
+  pub eachGiven : EachGiven
+  pub writersSay : (s out : List ℕ) → Writers s out
+  pub writersGive : (s out : List ℕ) → OnlyTheirs s out
+  pub writersType : (s : List ℕ) (m : TlsMessageHandshake) (t : List ℕ) → handshakeText s m ≡ accepted t → some (getD t 0 0) ≡ typeWritten m

@@ -1,0 +1,37 @@
+-- Rules said a second time over definitions that stand apart, so that a slip in one of them is refused by a proof even where the code has
+-- it too. Shown by `proofs/Crossed.antt`.
+use Prim.Native.Nat.{ℕ, _+_, _≤_}
+use mathlib.Core.Path.{_≡_}
+use mathlib.Core.List.{List}
+use lib.ListN.{getD}
+use lib.Dec.{eqb}
+use Rattle.refusal.specs.Answers.{accepted, refused}
+use Rattle.refusal.specs.declared.Refusal.{Refusal}
+use Rattle.wire.specs.Parts.{pick}
+use Rattle.grammar.specs.Forms.{reading}
+use Rattle.message.specs.declared.handshake.TlsMessageHandshake.{TlsMessageHandshake}
+use Rattle.envelope.specs.Opening.{opened}
+use Rattle.record.specs.Records.{header, raw}
+use Rattle.record.specs.declared.TlsRawRecord.{TlsRawRecord}
+use Rattle.tell.specs.Messages.{messageNumbers}
+
+-- the record header by itself, and the raw record that begins with it: RFC 5246 6.2.1
+pub record HeaderAndRecord (s : List ℕ) : Type 0 where
+  -- a raw record has the header that stands by itself
+  pub sameHeader : (x : TlsRawRecord) → reading raw s ≡ accepted x → header s ≡ accepted (x .hdr)
+  -- its content lies behind the five bytes, as long as the header says and at most 16,640, and the next record behind the content
+  pub sameLength : (x : TlsRawRecord) → reading raw s ≡ accepted x → (x .«data» ≡ record { start = 5; len = x .hdr .len }) × (x .next ≡ 5 + x .hdr .len) × (x .hdr .len ≤ 16640)
+  -- without a header there is no record, for the same reason
+  pub sameRefusal : (r : Refusal) → header s ≡ refused r → reading raw s ≡ refused r
+
+-- the type of a message by the number that its kind is told with: a ServerHello of draft 18 is told by its version, and its type is the
+-- ServerHello's
+abbrev pub typeTold : ℕ → ℕ
+typeTold n = pick (eqb n 0x7f12) 0x02 n
+
+abbrev pub typeOf : TlsMessageHandshake → ℕ
+typeOf m = typeTold (getD (messageNumbers m) 0 0)
+
+-- a body that is opened by a type tells of that type, whatever the type, the length and the body
+abbrev pub TellsItsType : Type 0
+TellsItsType = (kind n : ℕ) (s : List ℕ) (m : TlsMessageHandshake) → opened kind n s ≡ accepted m → typeOf m ≡ kind

@@ -1,0 +1,224 @@
+-- The number of an answer, check by check: what a part, a number, a field and fields in a row come to. Assumes nothing.
+use Prim.Native.Nat.{ℕ, _+_, _%_, _<_, _≤_}
+use mathlib.Core.Path.{_≡_, refl, ap, sym, _∙_}
+use mathlib.Core.List.{List, [], _∷_}
+use mathlib.Core.Bool.{Bool, true, false, not}
+use native.Mathlib.Omega.{arith}
+use borrow.Author.Tests.{leb-true, leb-false, ltb-true, ltb-false, eqb-true, eqb-false, le-leb, lt-ltb, le-ltb, ne-eqb}
+use lib.ListN.{length, take, drop}
+use lib.Dec.{leb, ltb, eqb}
+use Rattle.refusal.specs.Answers.{Answer, accepted, refused, then, orElse, within, numberIn}
+use Rattle.refusal.specs.Refusals.{numberOf}
+use Rattle.refusal.specs.declared.Reason.{Reason}
+use Rattle.refusal.specs.declared.Reason.the-variants.{Incomplete}
+use Rattle.refusal.proofs.Told.{its-reason, inside-reason, not-zero}
+use Rattle.wire.specs.Parts.{pick, partOf, partAt}
+use Rattle.wire.specs.Numbers.{be, numberAt}
+use Rattle.wire.specs.declared.view.View.{View}
+use Rattle.wire.specs.declared.view.Part.{Part}
+use Rattle.wire.specs.declared.number.Number.{Number}
+use Rattle.wire.proofs.Parts.{found, part-in, part-out}
+use Rattle.field.specs.Fields.{Field, fixed, counted, Rule, ruled, step}
+use Rattle.grammar.specs.Grammars.{Each}
+use Rattle.grammar.specs.Reading.{fieldsAt, lastAt, withLast}
+use Rattle.grammar.specs.Forms.{Form, valueOf, reading}
+use Rattle.grammar.proofs.Chain.{begin-on}
+use Rattle.readcases.specs.Readers.{Check, inOrder, under, All, _&_, end}
+
+-- what is made of an accepted answer does not count
+pub number-on : {A B : Type 0} (x : Answer A) (f : A → B) → numberIn (then x (λ a. accepted (f a))) ≡ numberIn x
+number-on (accepted a) f = refl
+number-on (refused r) f = refl
+
+-- nor where it lies
+pub number-within : {A : Type 0} (at : ℕ) (x : Answer A) → numberIn (within at x) ≡ numberIn x
+number-within at (accepted a) = refl
+number-within at (refused r) = ap numberOf (inside-reason at r)
+
+pub then-assoc : {A B C : Type 0} (x : Answer A) (f : A → Answer B) (k : B → Answer C) → then (then x f) k ≡ then x (λ a. then (f a) k)
+then-assoc (accepted a) f k = refl
+then-assoc (refused r) f k = refl
+
+-- a test turned round
+pub not-leb : (a b : ℕ) → not (leb a b) ≡ ltb b a
+not-leb a b = go (leb a b) refl
+  where
+    go : (t : Bool) → leb a b ≡ t → not (leb a b) ≡ ltb b a
+    go true q = rw (q, le-ltb b a (leb-true a b q))
+    go false q = rw (q, lt-ltb b a (leb-false a b q))
+
+pub not-even : (n : ℕ) → not (eqb (n % 2) 0) ≡ eqb (n % 2) 1
+not-even n = go (eqb (n % 2) 0) refl
+  where
+    go : (t : Bool) → eqb (n % 2) 0 ≡ t → not (eqb (n % 2) 0) ≡ eqb (n % 2) 1
+    go true q = let e : n % 2 ≡ 0 = eqb-true (n % 2) 0 q in rw e
+    go false q = let e : n % 2 ≡ 1 = omega (arith, eqb-false (n % 2) 0 q) in rw e
+
+-- n bytes from a place on, and what follows
+pub part-then : {B : Type 0} (past : Reason) (s : List ℕ) (at n : ℕ) (k : Part → Answer B)
+    → numberIn (then (partAt past s at n) k) ≡ inOrder (under s (at + n) past ∷ []) (numberIn (k (found at n)))
+unfolding inOrder
+part-then past s at n k = go (leb (at + n) (length s)) refl
+  where
+    go : (t : Bool) → leb (at + n) (length s) ≡ t
+        → numberIn (then (partAt past s at n) k) ≡ inOrder (under s (at + n) past ∷ []) (numberIn (k (found at n)))
+    go true q =
+        let h = leb-true _ _ q in
+        rw (part-in past s at n h, le-ltb (length s) (at + n) h)
+    go false q =
+        let h = leb-false _ _ q in
+        rw (part-out past s at n h, lt-ltb (length s) (at + n) h) (ap numberOf (its-reason past at _))
+
+pub number-then : {B : Type 0} (w : ℕ) (s : List ℕ) (at : ℕ) (k : Number → Answer B)
+    → numberIn (then (numberAt w s at) k) ≡ inOrder (under s (at + w) Incomplete ∷ []) (numberIn (k (record { value = be w s at; next = at + w })))
+unfolding numberAt inOrder
+number-then w s at k = rw then-assoc (part-then Incomplete s at w (λ p. k (record { value = be w s at; next = p .next })))
+
+pub fixed-then : {B : Type 0} (n : ℕ) (s : List ℕ) (at : ℕ) (k : Part → Answer B)
+    → numberIn (then (step (fixed n) s at) k) ≡ inOrder (under s (at + n) Incomplete ∷ []) (numberIn (k (found at n)))
+unfolding step
+fixed-then n s at k = part-then Incomplete s at n k
+
+ruled-then : {B : Type 0} (r : Rule) (s : List ℕ) (at n : ℕ) (k : Part → Answer B)
+    → numberIn (then (ruled r s at n) k) ≡ inOrder ((not (r .allows n), r .broken) ∷ under s (at + n) (r .past) ∷ []) (numberIn (k (found at n)))
+unfolding ruled inOrder
+ruled-then r s at n k = go (r .allows n) refl
+  where
+    go : (t : Bool) → r .allows n ≡ t
+        → numberIn (then (ruled r s at n) k) ≡ inOrder ((not (r .allows n), r .broken) ∷ under s (at + n) (r .past) ∷ []) (numberIn (k (found at n)))
+    go true q = rw q (part-then (r .past) s at n k)
+    go false q = rw q (ap numberOf (its-reason (r .broken) at 0))
+
+-- the checks of a field with a length
+abbrev countedChecks : ℕ → Rule → List ℕ → ℕ → List Check
+countedChecks w r s at = under s (at + w) Incomplete ∷ (not (r .allows (be w s at)), r .broken) ∷ []
+
+pub counted-then : {B : Type 0} (w : ℕ) (r : Rule) (s : List ℕ) (at : ℕ) (k : Part → Answer B)
+    → numberIn (then (step (counted w r) s at) k) ≡ inOrder (countedChecks w r s at) (inOrder (under s (at + w + be w s at) (r .past) ∷ []) (numberIn (k (found (at + w) (be w s at)))))
+unfolding step inOrder
+counted-then w r s at k = rw (then-assoc, number-then, ruled-then)
+
+-- the bytes up to a place, where the fields that follow do not ask for them with the same refusal
+abbrev asked : Reason → List ℕ → ℕ → List Field → List Check → List Check
+asked why s n [] checks = under s n why ∷ checks
+asked why s n (f ∷ fs) checks = pick (eqb (numberOf why) 1) checks (under s n why ∷ checks)
+
+-- the checks of fields in a row, from a place on, and the views found where none holds
+abbrev pub checksOf : List Field → List ℕ → ℕ → List Check
+checksOf [] s at = []
+checksOf (fixed n ∷ fs) s at = asked Incomplete s (at + n) fs (checksOf fs s (at + n))
+checksOf (counted w r ∷ fs) s at =
+    let past = at + w + be w s at in
+    under s (at + w) Incomplete
+    ∷ (not (r .allows (be w s at)), r .broken)
+    ∷ asked (r .past) s past fs (checksOf fs s past)
+
+abbrev one-more : (f : Field) (fs : List Field) → View → Each View fs × ℕ → Each View (f ∷ fs) × ℕ
+one-more f fs v q = ((v, q .0), q .1)
+
+abbrev pub viewsAt : (fs : List Field) → List ℕ → ℕ → Each View fs × ℕ
+viewsAt [] s at = (tt, at)
+viewsAt (fixed n ∷ fs) s at = one-more (fixed n) fs (found at n .view) (viewsAt fs s (at + n))
+viewsAt (counted w r ∷ fs) s at = one-more (counted w r) fs (found (at + w) (be w s at) .view) (viewsAt fs s (at + w + be w s at))
+
+-- past the end the first field is lacking
+past-end : (fs : List Field) (f : Field) (s : List ℕ) (n x : ℕ) → length s < n → inOrder (checksOf (f ∷ fs) s n) x ≡ 1
+unfolding inOrder
+past-end [] (fixed m) s n x h = rw (lt-ltb (length s) (n + m) (omega arith))
+past-end [] (counted w r) s n x h = rw (lt-ltb (length s) (n + w) (omega arith))
+past-end (g ∷ fs) (fixed m) s n x h = past-end fs g s (n + m) x (omega arith)
+past-end (g ∷ fs) (counted w r) s n x h = rw (lt-ltb (length s) (n + w) (omega arith))
+
+asked-same : (why : Reason) (s : List ℕ) (n : ℕ) (fs : List Field) (x : ℕ)
+    → inOrder (under s n why ∷ checksOf fs s n) x ≡ inOrder (asked why s n fs (checksOf fs s n)) x
+unfolding inOrder
+asked-same why s n [] x = refl
+asked-same why s n (f ∷ fs) x = go (eqb (numberOf why) 1) (ltb (length s) n) refl refl
+  where
+    go : (t u : Bool) → eqb (numberOf why) 1 ≡ t → ltb (length s) n ≡ u
+        → inOrder (under s n why ∷ checksOf (f ∷ fs) s n) x ≡ inOrder (asked why s n (f ∷ fs) (checksOf (f ∷ fs) s n)) x
+    go false u q p = rw q
+    go true false q p = rw (q, p)
+    go true true q p = rw (q, p, past-end fs f s n x (ltb-true _ _ p)) (eqb-true _ _ q)
+
+pub fields-then : (fs : List Field) (s : List ℕ) (at : ℕ) {B : Type 0} (k : Each View fs × ℕ → Answer B)
+    → numberIn (then (fieldsAt fs s at) k) ≡ inOrder (checksOf fs s at) (numberIn (k (viewsAt fs s at)))
+unfolding fieldsAt inOrder
+fields-then [] s at k = refl
+fields-then (fixed n ∷ fs) s at k =
+    let m = one-more (fixed n) fs (found at n .view) in
+    rw (then-assoc, fixed-then, then-assoc, fields-then fs s (at + n) (λ q. k (m q)))
+    (asked-same Incomplete s (at + n) fs _)
+fields-then (counted w r ∷ fs) s at k =
+    let v = be w s at in
+    let m = one-more (counted w r) fs (found (at + w) v .view) in
+    rw (then-assoc, counted-then, then-assoc, fields-then fs s (at + w + v) (λ q. k (m q)), asked-same (r .past) s (at + w + v) fs _)
+
+-- what a form makes of its fields where no check holds
+abbrev pub valueAt : {C : Type 0} (k : Form C) → List ℕ → C
+valueAt k s =
+    let q = viewsAt (k .grammar .fields) s 0 in
+    valueOf k s (withLast (k .grammar) (q .0) (lastAt (k .grammar .block) s (q .1)))
+
+-- reading by a form, and what follows: the checks of its fields come first
+pub form-then : {C B : Type 0} (k : Form C) (s : List ℕ) (c : C → Answer B)
+    → numberIn (then (reading k s) c) ≡ inOrder (checksOf (k .grammar .fields) s 0) (numberIn (c (valueAt k s)))
+form-then k s c =
+    rw (begin-on k s, then-assoc)
+    (fields-then (k .grammar .fields) s 0 (λ q. c (valueOf k s (withLast (k .grammar) (q .0) (lastAt (k .grammar .block) s (q .1))))))
+
+pub form-number : {C : Type 0} (k : Form C) (s : List ℕ) → numberIn (reading k s) ≡ inOrder (checksOf (k .grammar .fields) s 0) 0
+form-number {C} k s = sym (number-on (reading k s) (λ (c : C). c)) ∙ form-then k s (λ c. accepted c)
+
+-- by a number: at each of a few, and at every other
+abbrev pub NoneOf : List ℕ → ℕ → Type 0
+NoneOf [] k = Unit
+NoneOf (t ∷ ts) k = (eqb k t ≡ false) × NoneOf ts k
+
+pub by-number : (P : ℕ → Type 0) (ts : List ℕ) → All P ts → (k : ℕ) → (NoneOf ts k → P k) → P k
+by-number P [] end k other = other tt
+by-number P (t ∷ ts) (p & ps) k other = go (eqb k t) refl (λ o. by-number P ts ps k o)
+  where
+    go : (b : Bool) → eqb k t ≡ b → ((NoneOf ts k → P k) → P k) → P k
+    go true q ih = rw (eqb-true k t q) p
+    go false q ih = ih (λ n. other (q, n))
+
+-- a number that is not from lo to hi
+pub outside : {A : Type 0} (lo hi v : ℕ) (x y : A) → (lo ≤ v → hi < v) → pick (ltb v lo) x (pick (ltb hi v) x y) ≡ x
+outside lo hi v x y f = go (ltb v lo) refl
+  where
+    go : (t : Bool) → ltb v lo ≡ t → pick (ltb v lo) x (pick (ltb hi v) x y) ≡ x
+    go true q = rw q
+    go false q = rw (q, lt-ltb hi v (f (ltb-false v lo q)))
+
+-- the first answer where it is accepted, else the second
+pub number-else : {A : Type 0} (x y : Answer A) → numberIn (orElse x y) ≡ pick (eqb (numberIn x) 0) 0 (numberIn y)
+number-else (accepted a) y = refl
+number-else (refused r) y = rw (ne-eqb (numberOf (r .reason)) 0 (λ e. not-zero (r .reason) (sym e)))
+
+pub number-pick : {A : Type 0} (t : Bool) (x y : Answer A) → numberIn (pick t x y) ≡ pick t (numberIn x) (numberIn y)
+number-pick true x y = refl
+number-pick false x y = refl
+
+-- a check made twice
+pub twice : (t : Bool) (x y : ℕ) → pick t x (pick t x y) ≡ pick t x y
+twice true x y = refl
+twice false x y = refl
+
+-- fewer bytes asked for before more, with the same refusal
+pub fewer-first : (l a b x y : ℕ) → a ≤ b → pick (ltb l a) x (pick (ltb l b) x y) ≡ pick (ltb l b) x y
+fewer-first l a b x y h = go (ltb l a) refl
+  where
+    go : (t : Bool) → ltb l a ≡ t → pick (ltb l a) x (pick (ltb l b) x y) ≡ pick (ltb l b) x y
+    go true q = rw (q, lt-ltb l b (omega (arith, ltb-true l a q)))
+    go false q = rw q
+
+-- a part that is there is the bytes from its place on
+pub part-taken : (s : List ℕ) (a n x : ℕ) (f : List ℕ → ℕ)
+    → pick (ltb (length s) (a + n)) x (f (partOf s (record { start = a; len = n }))) ≡ pick (ltb (length s) (a + n)) x (f (take n (drop a s)))
+part-taken s a n x f = go (ltb (length s) (a + n)) refl
+  where
+    go : (t : Bool) → ltb (length s) (a + n) ≡ t
+        → pick (ltb (length s) (a + n)) x (f (partOf s (record { start = a; len = n }))) ≡ pick (ltb (length s) (a + n)) x (f (take n (drop a s)))
+    go true q = rw q
+    go false q = rw (q, le-leb (a + n) (length s) (ltb-false _ _ q))

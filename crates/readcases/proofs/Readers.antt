@@ -1,0 +1,432 @@
+-- The readers' numbers are the cases of `specs/Readers.antt`, a definition for each field. Assumes nothing.
+use Prim.Native.Nat.{ℕ, zero, suc, _+_, _-_, _/_, _≤_, _<_}
+use native.Mathlib.Nat.{zero-add}
+use mathlib.Core.Path.{_≡_, refl, ap, sym, _∙_}
+use mathlib.Core.List.{List, [], _∷_}
+use mathlib.Core.Bool.{Bool, true, false}
+use native.Mathlib.Omega.{arith}
+use borrow.Author.Tests.{leb-true, leb-false, ltb-false, eqb-false, lt-ltb, ltb-true}
+use lib.ListN.{length}
+use lib.Dec.{leb, ltb, eqb}
+use Rattle.refusal.specs.Answers.{Answer, accepted, refused, then, numberIn}
+use Rattle.refusal.specs.Refusals.{numberOf, refusal}
+use Rattle.refusal.specs.declared.Reason.the-variants.{Incomplete, Complete, Verify, Tag, Switch, Elsewhere, NoSuch}
+use Rattle.refusal.proofs.Told.{its-reason, inside-reason}
+use Rattle.refusal.proofs.Then.{then-accepted}
+use Rattle.wire.specs.Parts.{pick, partOf}
+use Rattle.wire.specs.Numbers.{be, numberAt}
+use Rattle.wire.specs.declared.view.View.{View}
+use Rattle.wire.specs.declared.view.Part.{Part}
+use Rattle.wire.proofs.Parts.{found, fits}
+use Rattle.wire.proofs.Numbers.{number-is}
+use Rattle.field.specs.Fields.{Field, sized, ruleOf, step, ruled}
+use Rattle.field.specs.declared.Kind.the-variants.{Plain}
+use Rattle.field.proofs.Rules.{ruled-accepted}
+use Rattle.grammar.specs.Forms.{reading}
+use Rattle.grammar.specs.Versions.{byVersion, ifListed}
+use Rattle.list.specs.Items.{items, itemsFrom, place, itemFrom, numberPlace, orNoSuch}
+use Rattle.list.proofs.Walk.{place-past, place-below}
+use Rattle.list.proofs.Fixed.{count-of}
+use Rattle.client.specs.Client.{client}
+use Rattle.server.specs.Server.{server, serverVersions}
+use Rattle.server.specs.Draft18.{draft18}
+use Rattle.certs.specs.Certificate.{certificate}
+use Rattle.certs.specs.Request.{long, short, certificateRequest}
+use Rattle.certs.specs.Status.{status}
+use Rattle.body.specs.Retry.{retry}
+use Rattle.body.specs.Ticket.{ticket, sessionTicket}
+use Rattle.body.specs.NextProtocol.{nextProtocol}
+use Rattle.message.specs.declared.handshake.TlsMessageHandshake.{TlsMessageHandshake}
+use Rattle.message.specs.declared.handshake.TlsMessageHandshake.the-variants.{ClientHello, ServerHello, ServerHelloV13Draft18, HelloRetryRequest, NewSessionTicket, Certificate, CertificateRequest, CertificateStatus, NextProtocol}
+use Rattle.hellos.specs.Hellos.{helloRequestMessage, clientMessage, serverMessage, retryMessage}
+use Rattle.bodies.specs.Bodies.{ticketMessage, certificateMessage, requestMessage, statusMessage, nextProtocolMessage, keyUpdateMessage}
+use Rattle.opaque.specs.Whole.{wholeBody}
+use Rattle.envelope.specs.declared.TlsMessageHead.{TlsMessageHead}
+use Rattle.envelope.specs.Heads.{headAt}
+use Rattle.envelope.specs.Opening.{Met, opened, byType, metAt, message}
+use Rattle.walk.specs.Walks.{metHead, nextMessage}
+use Rattle.walk.specs.declared.TlsRecordWalk.{TlsRecordWalk}
+use Rattle.record.specs.Records.{header, raw, encrypted}
+use Rattle.record.specs.declared.TlsRawRecord.{TlsRawRecord}
+use Rattle.plaintext.specs.declared.TlsPlaintext.{TlsPlaintext}
+use Rattle.plaintext.specs.declared.TlsPlaintextOpened.{TlsPlaintextOpened}
+use Rattle.plaintext.specs.Plaintext.{firstRefusal, ifFirst, handshakes, byRecordType, plaintext, withFirst, openedFirst}
+use Rattle.readcases.specs.Readers.{_&_, end, inOrder, under, less, over, beside, clientCase, serverCase, byVersionCase, draft18Case, serverMessageCase, retryCase, ticketCase, certificateCase, requestCase, statusCase, nextProtocolCase, keyUpdateCase, wholeCase, openedCase, bodyCase, headChecks, headCase, metCase, headerCase, rawCase, ofFirst, recordTypeCase, plaintextCase, placeCase, itemCase, itemCount, walkCase, EveryReading}
+use Rattle.readcases.proofs.Checks.{number-on, number-within, number-else, number-pick, then-assoc, not-leb, not-even, twice, fewer-first, part-taken, number-then, fixed-then, counted-then, form-then, form-number, by-number, outside}
+
+client-hello : (s : List ℕ) → numberIn (reading client s) ≡ clientCase s
+unfolding clientCase inOrder
+client-hello s =
+    let id = be 1 s 34 in
+    let cs = be 2 s (35 + id) in
+    let a : 35 + id + 2 ≡ 37 + id = omega arith in
+    let b : 37 + id + cs + 1 ≡ 38 + id + cs = omega arith in
+    rw (form-number client s, a, b, not-leb, not-even)
+
+server-hello : (s : List ℕ) (hasExt : Bool) → numberIn (reading (server hasExt) s) ≡ serverCase s
+unfolding serverCase inOrder
+server-hello s hasExt =
+    let e : 35 + be 1 s 34 + 2 + 1 ≡ 38 + be 1 s 34 = omega arith in
+    rw (form-number (server hasExt) s, e, not-leb)
+
+-- a version from 0x0300 to 0x0303 is listed, and no other
+abbrev Listed : List ℕ → ℕ → Type 0
+Listed s v = numberIn (ifListed (serverVersions v) s) ≡ inOrder (less v 0x0300 Tag ∷ over v 0x0303 Tag ∷ []) (serverCase s)
+
+listed : (s : List ℕ) (v : ℕ) → Listed s v
+unfolding inOrder
+listed s v =
+    by-number (Listed s) (0x0300 ∷ 0x0301 ∷ 0x0302 ∷ 0x0303 ∷ [])
+    (server-hello s false & server-hello s true & server-hello s true & server-hello s true & end) v
+    (λ (a, (b, (c, (d, _)))).
+    let f : 0x0300 ≤ v → 0x0303 < v = λ h. omega (arith, eqb-false v 0x0300 a, eqb-false v 0x0301 b, eqb-false v 0x0302 c, eqb-false v 0x0303 d) in
+    rw (a, b, c, d, its-reason Tag 0 0) (sym (outside 0x0300 0x0303 v (numberOf Tag) (serverCase s) f)))
+
+server-by-version : (s : List ℕ) → numberIn (byVersion serverVersions s) ≡ byVersionCase s
+unfolding byVersion byVersionCase inOrder
+server-by-version s = rw (number-then, listed s (be 2 s 0))
+
+draft18-hello : (s : List ℕ) → numberIn (reading draft18 s) ≡ draft18Case s
+unfolding draft18Case
+draft18-hello s = form-number draft18 s
+
+of-retry : (s : List ℕ) → numberIn (reading retry s) ≡ retryCase s
+unfolding retryCase
+of-retry s = form-number retry s
+
+of-ticket : (s : List ℕ) (n : ℕ) → numberIn (sessionTicket n s) ≡ ticketCase n s
+unfolding sessionTicket ticketCase inOrder
+of-ticket s n = go (ltb n 4) refl
+  where
+    go : (t : Bool) → ltb n 4 ≡ t → numberIn (sessionTicket n s) ≡ ticketCase n s
+    go true q = rw q (ap numberOf (its-reason Verify 0 0))
+    go false q =
+        let e : 4 + (n - 4) ≡ n = omega (arith, ltb-false n 4 q) in
+        rw (q, fixed-then, zero-add, form-number (ticket n) s, e, twice)
+
+of-certificate : (s : List ℕ) → numberIn (reading certificate s) ≡ certificateCase s
+unfolding certificateCase inOrder
+of-certificate s = form-number certificate s
+
+-- two forms that ask for a and b bytes, then the first for d and e, the second for c: both lack just where the second does, c being no more
+-- than d
+abbrev EitherForm : ℕ → ℕ → ℕ → ℕ → ℕ → ℕ → Type 0
+EitherForm l a b c d e =
+    _≡_ {A = ℕ}
+    (pick (eqb (pick (ltb l a) 1 (pick (ltb l b) 1 (pick (ltb l d) 1 (pick (ltb l e) 1 0)))) 0) 0 (pick (eqb (pick (ltb l a) 1 (pick (ltb l b) 1 (pick (ltb l c) 1 0))) 0) 0 2))
+    (pick (ltb l a) 2 (pick (ltb l b) 2 (pick (ltb l c) 2 0)))
+
+other-form : (l a b c d e : ℕ) → c ≤ d → EitherForm l a b c d e
+other-form l a b c d e h = go (ltb l a) (ltb l b) (ltb l c) refl refl refl
+  where
+    same : (t : Bool) → _≡_ {A = ℕ} (pick t 0 0) 0
+    same true = refl
+    same false = refl
+
+    go : (t u v : Bool) → ltb l a ≡ t → ltb l b ≡ u → ltb l c ≡ v → EitherForm l a b c d e
+    go true u v p q r = rw p
+    go false true v p q r = rw (p, q)
+    go false false true p q r = rw (p, q, r, lt-ltb l d (omega (arith, ltb-true l c r)))
+    go false false false p q r = rw (p, q, r) (same (eqb (pick (ltb l d) 1 (pick (ltb l e) 1 0)) 0))
+
+of-request : (s : List ℕ) → numberIn (certificateRequest s) ≡ requestCase s
+unfolding certificateRequest requestCase inOrder
+of-request s =
+    let types = be 1 s 0 in
+    let names = be 2 s (1 + types) in
+    let e : 1 + types + 2 ≡ 3 + types = omega arith in
+    rw (number-else, number-else, form-number long s, form-number short s, its-reason Complete 0 0, e)
+    (other-form (length s) 1 (3 + types) (3 + types + names) (3 + types + names + 2) _ (omega arith))
+
+of-status : (s : List ℕ) → numberIn (reading status s) ≡ statusCase s
+unfolding statusCase inOrder
+of-status s = form-number status s
+
+of-next-protocol : (s : List ℕ) → numberIn (reading nextProtocol s) ≡ nextProtocolCase s
+unfolding nextProtocolCase inOrder
+of-next-protocol s =
+    let e : 1 + be 1 s 0 + 1 ≡ 2 + be 1 s 0 = omega arith in
+    rw (form-number nextProtocol s, e)
+
+hello-request-as : (s : List ℕ) → numberIn (helloRequestMessage s) ≡ 0
+unfolding helloRequestMessage
+hello-request-as s = refl
+
+client-as : (s : List ℕ) → numberIn (clientMessage s) ≡ clientCase s
+unfolding clientMessage
+client-as s = number-on (reading client s) (λ c. ClientHello c) ∙ client-hello s
+
+server-as : (s : List ℕ) → numberIn (serverMessage s) ≡ serverMessageCase s
+unfolding serverMessage serverMessageCase inOrder
+server-as s =
+    let d = number-on (reading draft18 s) (λ c. ServerHelloV13Draft18 c) in
+    let e = number-on (byVersion serverVersions s) (λ c. ServerHello c) in
+    rw (number-then, number-pick, d, draft18-hello s, e, server-by-version s)
+
+retry-as : (s : List ℕ) → numberIn (retryMessage s) ≡ retryCase s
+unfolding retryMessage
+retry-as s = number-on (reading retry s) (λ c. HelloRetryRequest c) ∙ of-retry s
+
+ticket-as : (s : List ℕ) (n : ℕ) → numberIn (ticketMessage n s) ≡ ticketCase n s
+unfolding ticketMessage
+ticket-as s n = number-on (sessionTicket n s) (λ c. NewSessionTicket c) ∙ of-ticket s n
+
+certificate-as : (s : List ℕ) → numberIn (certificateMessage s) ≡ certificateCase s
+unfolding certificateMessage
+certificate-as s = number-on (reading certificate s) (λ c. Certificate c) ∙ of-certificate s
+
+request-as : (s : List ℕ) → numberIn (requestMessage s) ≡ requestCase s
+unfolding requestMessage
+request-as s = number-on (certificateRequest s) (λ c. CertificateRequest c) ∙ of-request s
+
+status-as : (s : List ℕ) → numberIn (statusMessage s) ≡ statusCase s
+unfolding statusMessage
+status-as s = number-on (reading status s) (λ c. CertificateStatus c) ∙ of-status s
+
+next-protocol-as : (s : List ℕ) → numberIn (nextProtocolMessage s) ≡ nextProtocolCase s
+unfolding nextProtocolMessage
+next-protocol-as s = number-on (reading nextProtocol s) (λ c. NextProtocol c) ∙ of-next-protocol s
+
+key-update-as : (s : List ℕ) → numberIn (keyUpdateMessage s) ≡ keyUpdateCase s
+unfolding keyUpdateMessage keyUpdateCase inOrder
+key-update-as s = rw number-then
+
+whole-as : (s : List ℕ) (make : View → TlsMessageHandshake) (n : ℕ) → numberIn (wholeBody make n s) ≡ wholeCase n s
+unfolding wholeBody wholeCase inOrder
+whole-as s make n = rw (fixed-then, zero-add)
+
+opens : (s : List ℕ) (k n : ℕ) → numberIn (opened k n s) ≡ openedCase k n s
+unfolding opened openedCase beside
+opens s k n =
+    by-number (λ j. numberIn (opened j n s) ≡ openedCase j n s)
+    (0x00 ∷ 0x01 ∷ 0x02 ∷ 0x04 ∷ 0x05 ∷ 0x06 ∷ 0x0b ∷ 0x0c ∷ 0x0d ∷ 0x0e ∷ 0x0f ∷ 0x10 ∷ 0x14 ∷ 0x16 ∷ 0x18 ∷ 0x43 ∷ [])
+    (hello-request-as s
+    & client-as s
+    & server-as s
+    & ticket-as s n
+    & refl
+    & retry-as s
+    & certificate-as s
+    & whole-as s _ n
+    & request-as s
+    & whole-as s _ n
+    & whole-as s _ n
+    & whole-as s _ n
+    & whole-as s _ n
+    & status-as s
+    & key-update-as s
+    & next-protocol-as s
+    & end) k
+    (λ (a, (b, (c, (d, (e, (f, (g, (h, (i, (j, (l, (m, (o, (p, (q, (r, _)))))))))))))))).
+    rw (a, b, c, d, e, f, g, h, i, j, l, m, o, p, q, r, its-reason Switch 0 0))
+
+opens-all : (s : List ℕ) (k : ℕ) → numberIn (byType k s) ≡ bodyCase k s
+unfolding byType bodyCase
+opens-all s k = opens s k (length s)
+
+-- the head of a message at a place, where it is there
+abbrev headThere : List ℕ → ℕ → TlsMessageHead
+headThere s at = record { kind = be 1 s at; body = record { start = at + 4; len = be 3 s (at + 1) }; next = at + 4 + be 3 s (at + 1) }
+
+-- a message's head, and what follows
+head-then : {B : Type 0} (s : List ℕ) (at : ℕ) (k : TlsMessageHead → Answer B)
+    → numberIn (then (headAt s at) k) ≡ inOrder (headChecks s at) (numberIn (k (headThere s at)))
+unfolding headAt inOrder
+head-then s at k =
+    let e : at + 1 + 3 ≡ at + 4 = omega arith in
+    rw (then-assoc, number-then, then-assoc, counted-then, e, fewer-first (length s) (at + 1) (at + 4) _ _ (omega arith))
+
+heads : (s : List ℕ) (at : ℕ) → numberIn (headAt s at) ≡ headCase s at
+unfolding headCase
+heads s at = sym (number-on (headAt s at) (λ h. h)) ∙ head-then s at (λ h. accepted h)
+
+abbrev metThere : List ℕ → ℕ → TlsMessageHandshake → Met
+metThere s at m = record { head = headThere s at; says = m }
+
+meets : (s : List ℕ) (at : ℕ) → numberIn (metAt s at) ≡ metCase s at
+unfolding metAt metCase inOrder
+meets s at =
+    let kind = be 1 s at in
+    let m = number-on (byType kind (partOf s (headThere s at .body))) (metThere s at) in
+    rw (head-then, number-within, m, opens-all _ kind, part-taken s (at + 4) (be 3 s (at + 1)) 1 (bodyCase kind))
+
+meets-head : (s : List ℕ) (at : ℕ) → numberIn (metHead s at) ≡ metCase s at
+unfolding metHead
+meets-head s at = number-on (metAt s at) (λ x. x .head) ∙ meets s at
+
+message-first : (s : List ℕ) → numberIn (message s) ≡ metCase s 0
+unfolding message
+message-first s = number-on (metAt s 0) (λ x. x .says) ∙ meets s 0
+
+record-header : (s : List ℕ) → numberIn (header s) ≡ headerCase s
+unfolding header headerCase inOrder
+record-header s =
+    let a : 1 ≤ 3 = omega arith in
+    let b : 3 ≤ 5 = omega arith in
+    rw (number-then, number-then, number-then, fewer-first (length s) 1 3, fewer-first (length s) 3 5)
+
+raw-record : (s : List ℕ) → numberIn (reading raw s) ≡ rawCase s
+unfolding rawCase inOrder
+raw-record s = rw (form-number raw s, not-leb)
+
+encrypted-record : (s : List ℕ) → numberIn (encrypted s) ≡ rawCase s
+unfolding encrypted
+encrypted-record s = number-on (reading raw s) (λ r. record { hdr = r .hdr; msg = record { blob = r .«data» }; next = r .next }) ∙ raw-record s
+
+-- Incomplete from the first message becomes Complete
+first-number : {A B : Type 0} (at : ℕ) (x : Answer A) (b : B) → numberIn (ifFirst at x b) ≡ ofFirst (numberIn x)
+first-number at (accepted a) b = refl
+first-number at (refused r) b = go (eqb (numberOf (r .reason)) 1) refl
+  where
+    go : (t : Bool) → eqb (numberOf (r .reason)) 1 ≡ t → numberOf (firstRefusal at r .reason) ≡ ofFirst (numberOf (r .reason))
+    go true q = rw q (ap numberOf (its-reason Complete at 0))
+    go false q = rw q (ap numberOf (inside-reason at r))
+
+handshake-number : (r : TlsRawRecord) (content : List ℕ) → numberIn (handshakes r content) ≡ ofFirst (metCase content 0)
+unfolding handshakes
+handshake-number r content = rw (← meets content 0) (first-number (r .«data» .start) (metAt content 0) _)
+
+by-record-type : (t : ℕ) (r : TlsRawRecord) (content : List ℕ) → numberIn (byRecordType t r content) ≡ recordTypeCase t content
+unfolding byRecordType recordTypeCase inOrder
+by-record-type t r content =
+    let elsewhere = ap numberOf (its-reason Elsewhere 0 0) in
+    by-number (λ x. numberIn (byRecordType x r content) ≡ recordTypeCase x content) (0x14 ∷ 0x15 ∷ 0x16 ∷ 0x17 ∷ 0x18 ∷ [])
+    (elsewhere & elsewhere & handshake-number r content & elsewhere & elsewhere & end) t
+    (λ (a, (b, (c, (d, (e, _))))).
+    let f : 0x14 ≤ t → 0x18 < t = λ h. omega (arith, eqb-false t 0x14 a, eqb-false t 0x15 b, eqb-false t 0x16 c, eqb-false t 0x17 d, eqb-false t 0x18 e) in
+    rw (c, outside 0x14 0x18 t (refusal Switch 0 0) (refusal Elsewhere 0 0) f, its-reason Switch 0 0)
+    (sym (outside 0x14 0x18 t (numberOf Switch) _ f)))
+
+plaintext-record : (s : List ℕ) → numberIn (plaintext s) ≡ plaintextCase s
+unfolding plaintext plaintextCase inOrder
+plaintext-record s =
+    rw (form-then, by-record-type (be 1 s 0), part-taken s 5 (be 2 s 3) 1 (recordTypeCase (be 1 s 0)), not-leb)
+
+-- where an answer was gone on with, what follows it adds no refusal
+adds-none : {A B C : Type 0} (x : Answer A) (f : A → Answer B) (k : B → Answer C) → ((a : A) → numberIn (then (f a) k) ≡ numberIn (f a)) → numberIn (then (then x f) k) ≡ numberIn (then x f)
+adds-none (accepted a) f k h = h a
+adds-none (refused r) f k h = refl
+
+-- the record's first message, where the record is opened
+abbrev firstIn : List ℕ → TlsPlaintext → Answer TlsPlaintextOpened
+firstIn s p = withFirst (partOf s (p .msg)) p
+
+abbrev byItsType : List ℕ → TlsRawRecord → Answer TlsPlaintext
+byItsType s r = byRecordType (r .hdr .«record_type») r (partOf s (r .«data»))
+
+first-there : (s : List ℕ) (r : TlsRawRecord) → numberIn (then (byItsType s r) (firstIn s)) ≡ numberIn (byItsType s r)
+unfolding byRecordType handshakes
+first-there s r = go (eqb (r .hdr .«record_type») 0x16) (metAt (partOf s (r .«data»)) 0) refl refl
+  where
+    go : (b : Bool) (x : Answer Met) → eqb (r .hdr .«record_type») 0x16 ≡ b → metAt (partOf s (r .«data»)) 0 ≡ x → numberIn (then (byItsType s r) (firstIn s)) ≡ numberIn (byItsType s r)
+    go false x q e = rw q
+    go true (accepted x) q e = rw (q, e, e)
+    go true (refused y) q e = rw (q, e)
+
+opened-same : (s : List ℕ) → numberIn (openedFirst s) ≡ numberIn (plaintext s)
+unfolding openedFirst plaintext
+opened-same s = adds-none (reading raw s) (byItsType s) (firstIn s) (first-there s)
+
+plaintext-opened : (s : List ℕ) → numberIn (openedFirst s) ≡ plaintextCase s
+plaintext-opened s = opened-same s ∙ plaintext-record s
+
+number-place : {A : Type 0} (k : ℕ) (xs : List A) → numberIn (place k xs) ≡ placeCase k (length xs)
+unfolding placeCase inOrder
+number-place k xs = go (leb (length xs) k) refl
+  where
+    go : (t : Bool) → leb (length xs) k ≡ t → numberIn (place k xs) ≡ placeCase k (length xs)
+    go true q = rw (place-past k xs (leb-true _ _ q)) (ap numberOf (its-reason NoSuch 0 0) ∙ sym (ap (λ (u : Bool). pick u (numberOf NoSuch) 0) q))
+    go false q = rw (place-below k xs (leb-false _ _ q) .1) (sym (ap (λ (u : Bool). pick u (numberOf NoSuch) 0) q))
+
+places : (s : List ℕ) (f : Field) (k : ℕ) → numberIn (place k (items f s)) ≡ placeCase k (length (items f s))
+places s f k = number-place k (items f s)
+
+items-from-place : (s : List ℕ) (w at : ℕ) → numberIn (itemFrom (sized w) s at) ≡ itemCase w s at
+unfolding itemFrom itemCase inOrder
+items-from-place s w at =
+    rw (number-else, ← number-on (step (sized w) s at) (λ p. p), counted-then, its-reason NoSuch 0 0)
+    (none (ltb (length s) (at + w)) (ltb (length s) (at + w + be w s at)))
+  where
+    none : (t u : Bool) → _≡_ {A = ℕ} (pick (eqb (pick t 1 (pick u 1 0)) 0) 0 11) (pick t 11 (pick u 11 0))
+    none true u = refl
+    none false true = refl
+    none false false = refl
+
+-- where the item that was found lies
+item-found : (s : List ℕ) (w at : ℕ) {p : Part} → step (sized w) s at ≡ accepted p → p .next ≡ at + w + be w s at
+unfolding step
+item-found s w at e =
+    let t = then-accepted (numberAt w s at) (λ l. ruled (ruleOf Plain) s (l .next) (l .value)) e in
+    let u = ruled-accepted (ruleOf Plain) s (at + w) (be w s at) (rw (number-is w s at (t .1) .is) at (t .2)) in
+    ap (λ (p : Part). p .next) (fits Incomplete s (at + w) (be w s at) (u .1) .is)
+
+item-case : (s : List ℕ) (w at : ℕ) {a : Answer Part} → step (sized w) s at ≡ a → itemCase w s at ≡ numberIn (orNoSuch a)
+unfolding itemFrom
+item-case s w at e = sym (items-from-place s w at) ∙ rw e
+
+item-count : (s : List ℕ) (w n at : ℕ) → length (itemsFrom n (step (sized w) s) (λ (p : Part). p .next) at) ≡ itemCount n w s at
+unfolding itemsFrom itemCount
+item-count s w zero at = refl
+item-count s w (suc n) at = go (step (sized w) s at) refl (λ p. item-count s w n p)
+  where
+    go : (a : Answer Part) → step (sized w) s at ≡ a → ((p : ℕ) → length (itemsFrom n (step (sized w) s) (λ (p : Part). p .next) p) ≡ itemCount n w s p)
+        → length (itemsFrom (suc n) (step (sized w) s) (λ (p : Part). p .next) at) ≡ itemCount (suc n) w s at
+    go (accepted p) e ih = rw (e, item-case s w at e, ih (p .next), item-found s w at e)
+    go (refused r) e ih = rw (e, item-case s w at e, its-reason NoSuch 0 0)
+
+item-places : (s : List ℕ) (w k : ℕ) → numberIn (place k (items (sized w) s)) ≡ placeCase k (itemCount (length s) w s 0)
+item-places s w k = rw (← item-count s w (length s) 0) (number-place k (items (sized w) s))
+
+number-places : (s : List ℕ) (w k : ℕ) → 1 ≤ w → numberIn (numberPlace k w s) ≡ placeCase k (length s / w)
+number-places s w k one =
+    rw (← count-of w one s)
+    (number-on (place k (items (Field.fixed w) s)) (λ p. record { value = be w s (p .view .start); next = p .next }) ∙ number-place k (items (Field.fixed w) s))
+
+numbers : (s : List ℕ) (w at : ℕ) → numberIn (numberAt w s at) ≡ inOrder (under s (at + w) Incomplete ∷ []) 0
+numbers s w at = sym (number-on (numberAt w s at) (λ n. n)) ∙ number-then w s at (λ n. accepted n)
+
+walks : (s : List ℕ) (w : TlsRecordWalk) → numberIn (nextMessage s w) ≡ walkCase s (w .next)
+unfolding nextMessage walkCase
+walks s w = rw (number-on _ (λ (x : Met). x .says), number-else, meets s (w .next), its-reason NoSuch 0 0)
+
+pub every-reading : EveryReading
+every-reading s = record {
+  clientHello = client-hello s;
+  serverHello = server-hello s;
+  serverByVersion = server-by-version s;
+  draft18Hello = draft18-hello s;
+  ofRetry = of-retry s;
+  ofTicket = of-ticket s;
+  ofCertificate = of-certificate s;
+  ofRequest = of-request s;
+  ofStatus = of-status s;
+  ofNextProtocol = of-next-protocol s;
+  helloRequestAs = hello-request-as s;
+  clientAs = client-as s;
+  serverAs = server-as s;
+  retryAs = retry-as s;
+  ticketAs = ticket-as s;
+  certificateAs = certificate-as s;
+  requestAs = request-as s;
+  statusAs = status-as s;
+  nextProtocolAs = next-protocol-as s;
+  keyUpdateAs = key-update-as s;
+  wholeAs = whole-as s;
+  opens = opens s;
+  opensAll = opens-all s;
+  heads = heads s;
+  meets = meets s;
+  meetsHead = meets-head s;
+  messageFirst = message-first s;
+  recordHeader = record-header s;
+  rawRecord = raw-record s;
+  encryptedRecord = encrypted-record s;
+  plaintextRecord = plaintext-record s;
+  plaintextOpened = plaintext-opened s;
+  places = places s;
+  itemPlaces = item-places s;
+  numberPlaces = number-places s;
+  itemsFromPlace = items-from-place s;
+  numbers = numbers s;
+  walks = walks s;
+}

@@ -1,0 +1,306 @@
+-- Document 01's table of refusals, of the writers: "Each is given only then", and "Order in writing: 12, then 8, or 7 for a record, then
+-- 9". The rules stand here a second time, from the paper, in plain lengths and places: no case names a field, a rule or a form. By its
+-- contract a writer's answer is `room` of its text, so each case is one of the code. Shown by `proofs/Writers.antt`.
+use Prim.Native.Nat.{ℕ, _+_, _%_}
+use mathlib.Core.Path.{_≡_}
+use mathlib.Core.List.{List, [], _∷_}
+use mathlib.Core.Bool.{Bool, true, false, _&&_, _||_}
+use mathlib.Core.Option.{Option, none, some}
+use lib.ListN.{length, getD}
+use lib.Dec.{leb, eqb}
+use Rattle.refusal.specs.Refusals.{numberOf}
+use Rattle.refusal.specs.Answers.{Answer, accepted, numberIn, valuesIn}
+use Rattle.refusal.specs.declared.Reason.{Reason}
+use Rattle.refusal.specs.declared.Reason.the-variants.{TooLarge, BadLength, NoRoom, NotYetImplemented}
+use Rattle.wire.specs.Parts.{pick}
+use Rattle.wire.specs.Numbers.{bytesIn, numberText}
+use Rattle.wire.specs.Puts.{room}
+use Rattle.wire.specs.declared.view.View.{View}
+use Rattle.wire.specs.declared.view.OptView.{OptView}
+use Rattle.wire.specs.declared.view.OptView.the-variants.{Absent, Present}
+use Rattle.wire.specs.declared.number.Width.{Width}
+use Rattle.wire.specs.declared.number.Width.the-variants.{One, Two, Three, Four}
+use Rattle.field.specs.Fields.{counted, ruleOf}
+use Rattle.field.specs.Texts.{fieldText}
+use Rattle.field.specs.declared.Kind.{Kind}
+use Rattle.field.specs.declared.Kind.the-variants.{Plain, SessionId, Ciphers, Methods, Fragment}
+use Rattle.text.specs.Hellos.{helloText}
+use Rattle.text.specs.Messages.{headText, messageText, viewText}
+use Rattle.client.specs.Client.{client}
+use Rattle.client.specs.declared.TlsClientHelloContents.{TlsClientHelloContents}
+use Rattle.server.specs.Server.{server}
+use Rattle.server.specs.Draft18.{draft18}
+use Rattle.server.specs.declared.tlsv12.TlsServerHelloContents.{TlsServerHelloContents}
+use Rattle.server.specs.declared.tlsv13draft18.TlsServerHelloV13Draft18Contents.{TlsServerHelloV13Draft18Contents}
+use Rattle.message.specs.declared.keyexchange.TlsClientKeyExchangeContents.{TlsClientKeyExchangeContents}
+use Rattle.message.specs.declared.keyexchange.TlsClientKeyExchangeContents.the-variants.{Dh, Ecdh, Unknown}
+use Rattle.message.specs.declared.handshake.TlsMessageHandshake.{TlsMessageHandshake}
+use Rattle.message.specs.declared.handshake.TlsMessageHandshake.the-variants.{HelloRequest, ClientHello, ServerHello, ServerHelloV13Draft18, NewSessionTicket, EndOfEarlyData, HelloRetryRequest, Certificate, ServerKeyExchange, CertificateRequest, ServerDone, CertificateVerify, ClientKeyExchange, Finished, CertificateStatus, NextProtocol, KeyUpdate}
+use Rattle.genpart.specs.Exchange.{exchangeText}
+use Rattle.genmessage.specs.Messages.{handshakeText}
+use Rattle.record.specs.declared.TlsRecordHeader.{TlsRecordHeader}
+use Rattle.genrecord.specs.Records.{recordText}
+use Rattle.hear.specs.Heard.{heard}
+
+-- what a write comes to: the paper's number, and where it is accepted the place past the text, which is the text's length at the front
+pub record Case : Type 0 where
+  pub number : ℕ
+  pub reports : Option ℕ
+
+abbrev pub comesTo : Answer ℕ → Case
+comesTo a = record { number = numberIn a; reports = valuesIn a }
+
+abbrev pub refusing : Reason → Case
+refusing why = record { number = numberOf why; reports = none }
+
+-- NoRoom: "the output buffer is shorter than the finished text"; else the text is written, and ends at n
+abbrev pub upTo : ℕ → List ℕ → Case
+upTo n out = pick (leb n (length out)) (record { number = 0; reports = some n }) (refusing NoRoom)
+
+-- BadLength: "a part handed to a writer lies outside its bytes or breaks a length rule"; "then 9"
+abbrev pub whereFits : Bool → ℕ → List ℕ → Case
+whereFits fits n out = pick fits (upTo n out) (refusing BadLength)
+
+-- a part lies within the bytes lent with the value
+abbrev pub lent : List ℕ → View → Bool
+lent s v = leb (v .start + v .len) (length s)
+
+abbrev pub optLent : List ℕ → OptView → Bool
+optLent s Absent = true
+optLent s (Present v) = lent s v
+
+-- "An absent id writes 00; absent extensions write 00 00": a length, and no byte behind it
+abbrev pub optLen : OptView → ℕ
+optLen Absent = 0
+optLen (Present v) = v .len
+
+-- "Random exactly 32"
+abbrev pub randomFits : List ℕ → View → Bool
+randomFits s v = lent s v && eqb (v .len) 32
+
+-- "id at most 32"
+abbrev pub idFits : List ℕ → OptView → Bool
+idFits s o = optLent s o && leb (optLen o) 32
+
+-- "cipher bytes even, at most 65,534"
+abbrev pub ciphersFit : List ℕ → View → Bool
+ciphersFit s v = lent s v && (eqb (v .len % 2) 0 && leb (v .len) 65534)
+
+-- "extensions at most 65,535"
+abbrev pub extensionsFit : List ℕ → OptView → Bool
+extensionsFit s o = optLent s o && leb (optLen o) 65535
+
+-- "methods at most 255", "raw (at most 16,777,215 bytes)": a part of at most so many bytes
+abbrev pub partFits : ℕ → List ℕ → View → Bool
+partFits most s v = lent s v && leb (v .len) most
+
+-- ClientHello: type 1, length 3; version 2, random 32, id length 1, id, cipher length 2, ciphers, compression length 1, methods,
+-- extensions length 2, extensions
+unfoldable pub clientFits : List ℕ → TlsClientHelloContents → Bool
+clientFits s c =
+    randomFits s (c .random)
+    && (idFits s (c .«session_id»)
+    && (ciphersFit s (c .ciphers)
+    && (partFits 255 s (c .comp)
+    && extensionsFit s (c .ext))))
+
+unfoldable pub clientLength : TlsClientHelloContents → ℕ
+clientLength c = 4 + (2 + 32 + (1 + optLen (c .«session_id»)) + (2 + c .ciphers .len) + (1 + c .comp .len) + (2 + optLen (c .ext)))
+
+abbrev pub clientWrite : List ℕ → TlsClientHelloContents → List ℕ → Case
+clientWrite s c out = whereFits (clientFits s c) (clientLength c) out
+
+-- ServerHello, of whatever version: type 1, length 3; version 2, random 32, id length 1, id, cipher 2, compression 1, extensions length 2,
+-- extensions
+unfoldable pub serverFits : List ℕ → TlsServerHelloContents → Bool
+serverFits s c = randomFits s (c .random) && (idFits s (c .«session_id») && extensionsFit s (c .ext))
+
+unfoldable pub serverLength : TlsServerHelloContents → ℕ
+serverLength c = 4 + (2 + 32 + (1 + optLen (c .«session_id»)) + 2 + 1 + (2 + optLen (c .ext)))
+
+abbrev pub serverWrite : List ℕ → TlsServerHelloContents → List ℕ → Case
+serverWrite s c out = whereFits (serverFits s c) (serverLength c) out
+
+-- draft 18: type 1, length 3; version 2, random 32, cipher 2, extensions length 2, extensions
+unfoldable pub draft18Fits : List ℕ → TlsServerHelloV13Draft18Contents → Bool
+draft18Fits s c = randomFits s (c .random) && extensionsFit s (c .ext)
+
+unfoldable pub draft18Length : TlsServerHelloV13Draft18Contents → ℕ
+draft18Length c = 4 + (2 + 32 + 2 + (2 + optLen (c .ext)))
+
+abbrev pub draft18Write : List ℕ → TlsServerHelloV13Draft18Contents → List ℕ → Case
+draft18Write s c out = whereFits (draft18Fits s c) (draft18Length c) out
+
+-- "raw (at most 16,777,215 bytes), Diffie-Hellman (length 2, at most 65,535) or elliptic curve (length 1, at most 255)"
+abbrev pub exchangeWrite : List ℕ → TlsClientKeyExchangeContents → List ℕ → Case
+exchangeWrite s (Unknown v) out = whereFits (partFits 16777215 s v) (4 + v .len) out
+exchangeWrite s (Dh v) out = whereFits (partFits 65535 s v) (4 + (2 + v .len)) out
+exchangeWrite s (Ecdh v) out = whereFits (partFits 255 s v) (4 + (1 + v .len)) out
+
+-- "Finished: at most 16,777,215"
+abbrev pub finishedWrite : List ℕ → View → List ℕ → Case
+finishedWrite s v out = whereFits (partFits 16777215 s v) (4 + v .len) out
+
+-- HelloRequest: type 1, length 3, no body
+abbrev pub requestWrite : List ℕ → Case
+requestWrite out = upTo 4 out
+
+-- NotYetImplemented: "writing any handshake kind not named above", whatever its parts and the output; "12, then 8"
+unfoldable pub handshakeWrite : List ℕ → TlsMessageHandshake → List ℕ → Case
+handshakeWrite s HelloRequest out = requestWrite out
+handshakeWrite s (ClientHello c) out = clientWrite s c out
+handshakeWrite s (ServerHello c) out = serverWrite s c out
+handshakeWrite s (ServerHelloV13Draft18 c) out = draft18Write s c out
+handshakeWrite s (ClientKeyExchange k) out = exchangeWrite s k out
+handshakeWrite s (Finished v) out = finishedWrite s v out
+handshakeWrite s (NewSessionTicket c) out = refusing NotYetImplemented
+handshakeWrite s EndOfEarlyData out = refusing NotYetImplemented
+handshakeWrite s (HelloRetryRequest c) out = refusing NotYetImplemented
+handshakeWrite s (Certificate c) out = refusing NotYetImplemented
+handshakeWrite s (ServerKeyExchange c) out = refusing NotYetImplemented
+handshakeWrite s (CertificateRequest c) out = refusing NotYetImplemented
+handshakeWrite s (ServerDone v) out = refusing NotYetImplemented
+handshakeWrite s (CertificateVerify v) out = refusing NotYetImplemented
+handshakeWrite s (CertificateStatus c) out = refusing NotYetImplemented
+handshakeWrite s (NextProtocol c) out = refusing NotYetImplemented
+handshakeWrite s (KeyUpdate n) out = refusing NotYetImplemented
+
+-- TooLarge: "record length over 16,640, read or to be written"; type 1, version 2, length 2 and the lent bytes
+abbrev pub recordWrite : List ℕ → List ℕ → Case
+recordWrite p out = pick (leb (length p) 16640) (upTo (5 + length p) out) (refusing TooLarge)
+
+-- the bytes of a number, and the largest that they hold: RFC 5246 4.4
+abbrev pub wide : Width → ℕ
+wide One = 1
+wide Two = 2
+wide Three = 3
+wide Four = 4
+
+abbrev pub most : Width → ℕ
+most One = 255
+most Two = 65535
+most Three = 16777215
+most Four = 4294967295
+
+-- a number at a place
+abbrev pub numberWrite : Width → ℕ → ℕ → List ℕ → Case
+numberWrite w n at out = whereFits (leb n (most w)) (at + wide w) out
+
+-- the lent bytes at a place
+abbrev pub bytesWrite : List ℕ → ℕ → List ℕ → Case
+bytesWrite s at out = upTo (at + length s) out
+
+-- a part of n bytes behind its length: "id at most 32; cipher bytes even", and a record's at most 16,640
+abbrev pub kindFits : Kind → ℕ → Bool
+kindFits Plain n = true
+kindFits SessionId n = leb n 32
+kindFits Ciphers n = eqb (n % 2) 0
+kindFits Methods n = true
+kindFits Fragment n = leb n 16640
+
+-- "8, or 7 for a record"
+abbrev pub kindSays : Kind → Reason
+kindSays Plain = BadLength
+kindSays SessionId = BadLength
+kindSays Ciphers = BadLength
+kindSays Methods = BadLength
+kindSays Fragment = TooLarge
+
+abbrev pub fieldWrite : Width → Kind → List ℕ → ℕ → List ℕ → Case
+fieldWrite w k p at out = pick (leb (length p) (most w) && kindFits k (length p)) (upTo (at + (wide w + length p)) out) (refusing (kindSays k))
+
+-- type and length of a message with a body of n bytes
+abbrev pub headWrite : ℕ → List ℕ → Case
+headWrite n out = whereFits (leb n 16777215) 4 out
+
+-- every writer: s has the bytes that are written or that the views are of, and out is the output as lent
+pub record Writers (s out : List ℕ) : Type 0 where
+  pub clientHello : (c : TlsClientHelloContents) → comesTo (room (messageText 0x01 (helloText client s c)) 0 out) ≡ clientWrite s c out
+  pub serverHello : (c : TlsServerHelloContents) → comesTo (room (messageText 0x02 (helloText (server true) s c)) 0 out) ≡ serverWrite s c out
+  pub draft18Hello : (c : TlsServerHelloV13Draft18Contents) → comesTo (room (messageText 0x02 (helloText draft18 s c)) 0 out) ≡ draft18Write s c out
+  pub clientKeyExchange : (k : TlsClientKeyExchangeContents) → comesTo (room (messageText 0x10 (exchangeText s k)) 0 out) ≡ exchangeWrite s k out
+  pub finished : (v : View) → comesTo (room (messageText 0x14 (viewText s v)) 0 out) ≡ finishedWrite s v out
+  pub helloRequest : comesTo (room (messageText 0x00 (accepted [])) 0 out) ≡ requestWrite out
+  pub handshake : (m : TlsMessageHandshake) → comesTo (room (handshakeText s m) 0 out) ≡ handshakeWrite s m out
+  pub plaintext : (hdr : TlsRecordHeader) → comesTo (room (recordText hdr s) 0 out) ≡ recordWrite s out
+  -- what they are made of
+  pub number : (w : Width) (n at : ℕ) → comesTo (room (numberText (bytesIn w) n) at out) ≡ numberWrite w n at out
+  pub bytes : (at : ℕ) → comesTo (room (accepted s) at out) ≡ bytesWrite s at out
+  pub field : (w : Width) (k : Kind) (at : ℕ) → comesTo (room (fieldText (counted (bytesIn w) (ruleOf k)) s) at out) ≡ fieldWrite w k s at out
+  pub head : (kind n : ℕ) → comesTo (room (headText kind n) 0 out) ≡ headWrite n out
+
+abbrev pub EveryWriting : Type 0
+EveryWriting = (s out : List ℕ) → Writers s out
+
+-- a number is one of these
+abbrev pub isOne : List ℕ → ℕ → Bool
+isOne [] n = false
+isOne (k ∷ ks) n = eqb n k || isOne ks n
+
+abbrev pub Among : List ℕ → Answer ℕ → Type 0
+Among ks a = isOne ks (numberIn a) ≡ true
+
+-- of a writer that looks at lengths
+abbrev pub givenForLengths : List ℕ
+givenForLengths = 0 ∷ numberOf BadLength ∷ numberOf NoRoom ∷ []
+
+-- of one that does not
+abbrev pub givenForRoom : List ℕ
+givenForRoom = 0 ∷ numberOf NoRoom ∷ []
+
+abbrev pub givenForMessages : List ℕ
+givenForMessages = 0 ∷ numberOf BadLength ∷ numberOf NoRoom ∷ numberOf NotYetImplemented ∷ []
+
+abbrev pub givenForRecords : List ℕ
+givenForRecords = 0 ∷ numberOf TooLarge ∷ numberOf NoRoom ∷ []
+
+abbrev pub givenForFields : Kind → List ℕ
+givenForFields k = 0 ∷ numberOf (kindSays k) ∷ numberOf NoRoom ∷ []
+
+-- of hearing, which writes nothing
+abbrev pub givenForHearing : List ℕ
+givenForHearing = 0 ∷ numberOf BadLength ∷ numberOf NotYetImplemented ∷ []
+
+-- the numbers that each writer gives, and no other
+pub record OnlyTheirs (s out : List ℕ) : Type 0 where
+  pub clientHello : (c : TlsClientHelloContents) → Among givenForLengths (room (messageText 0x01 (helloText client s c)) 0 out)
+  pub serverHello : (c : TlsServerHelloContents) → Among givenForLengths (room (messageText 0x02 (helloText (server true) s c)) 0 out)
+  pub draft18Hello : (c : TlsServerHelloV13Draft18Contents) → Among givenForLengths (room (messageText 0x02 (helloText draft18 s c)) 0 out)
+  pub clientKeyExchange : (k : TlsClientKeyExchangeContents) → Among givenForLengths (room (messageText 0x10 (exchangeText s k)) 0 out)
+  pub finished : (v : View) → Among givenForLengths (room (messageText 0x14 (viewText s v)) 0 out)
+  pub helloRequest : Among givenForRoom (room (messageText 0x00 (accepted [])) 0 out)
+  pub handshake : (m : TlsMessageHandshake) → Among givenForMessages (room (handshakeText s m) 0 out)
+  pub plaintext : (hdr : TlsRecordHeader) → Among givenForRecords (room (recordText hdr s) 0 out)
+  pub number : (w : Width) (n at : ℕ) → Among givenForLengths (room (numberText (bytesIn w) n) at out)
+  pub bytes : (at : ℕ) → Among givenForRoom (room (accepted s) at out)
+  pub field : (w : Width) (k : Kind) (at : ℕ) → Among (givenForFields k) (room (fieldText (counted (bytesIn w) (ruleOf k)) s) at out)
+  pub head : (kind n : ℕ) → Among givenForLengths (room (headText kind n) 0 out)
+  -- of numbers that tell of a message to be written
+  pub hearing : isOne givenForHearing (numberIn (heard s)) ≡ true
+
+abbrev pub EveryNumber : Type 0
+EveryNumber = (s out : List ℕ) → OnlyTheirs s out
+
+-- "The type decides": 0x00, "0x01, 0x02: the hellos", 0x10, 0x14; a kind that is not written has none
+unfoldable pub typeWritten : TlsMessageHandshake → Option ℕ
+typeWritten HelloRequest = some 0x00
+typeWritten (ClientHello c) = some 0x01
+typeWritten (ServerHello c) = some 0x02
+typeWritten (ServerHelloV13Draft18 c) = some 0x02
+typeWritten (ClientKeyExchange k) = some 0x10
+typeWritten (Finished v) = some 0x14
+typeWritten (NewSessionTicket c) = none
+typeWritten EndOfEarlyData = none
+typeWritten (HelloRetryRequest c) = none
+typeWritten (Certificate c) = none
+typeWritten (ServerKeyExchange c) = none
+typeWritten (CertificateRequest c) = none
+typeWritten (ServerDone v) = none
+typeWritten (CertificateVerify v) = none
+typeWritten (CertificateStatus c) = none
+typeWritten (NextProtocol c) = none
+typeWritten (KeyUpdate n) = none
+
+-- "A message is type 1, length 3, body": a text begins with its type
+abbrev pub EveryType : Type 0
+EveryType = (s : List ℕ) (m : TlsMessageHandshake) (t : List ℕ) → handshakeText s m ≡ accepted t → some (getD t 0 0) ≡ typeWritten m
