@@ -1,16 +1,19 @@
-//! Links the proved archive: of `$NORRABIST_LIB`, or of `../target/native`.
+//! Links the proved archive: of `$NORRABIST_LIB`, or of `../target/native` of the tree that is built.
 
 use std::path::{Path, PathBuf};
 use std::process::exit;
 
 fn main() {
     println!("cargo:rerun-if-env-changed=NORRABIST_LIB");
+    // asked of cargo in this run: a compiled-in path would be that of the tree where this program was first built
+    let here = std::env::var_os("CARGO_MANIFEST_DIR").unwrap_or_default();
     let folder = match std::env::var_os("NORRABIST_LIB") {
         Some(folder) => PathBuf::from(folder),
-        None => Path::new(env!("CARGO_MANIFEST_DIR")).join("../target/native"),
+        None => Path::new(&here).join("../target/native"),
     };
     let archive = folder.join("libnorrabist_c.a");
     println!("cargo:rerun-if-changed={}", archive.display());
+    println!("cargo:rerun-if-changed={}", folder.join("libnorrabist_c.sum").display());
     let Ok(archive) = archive.canonicalize() else {
         eprintln!("norrabist: {} is not there; `rust/archive` makes it", archive.display());
         exit(1);
