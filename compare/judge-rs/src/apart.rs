@@ -1,4 +1,4 @@
-//! Two answers of the crate that part from RFC 5246 and that no case asks for.
+//! Two answers of the crate that part from RFC 5246 and that no recorded answer has.
 
 use cookie_factory::gen_simple;
 use tls_parser::{gen_tls_changecipherspec, parse_tls_handshake_client_hello, ClientHello};

@@ -12,6 +12,7 @@ pub mod domain;
 pub mod functions;
 pub mod generate;
 pub mod made;
+pub mod randoms;
 pub mod rng;
 pub mod sheet;
 pub mod text;

@@ -37,13 +37,11 @@ pub fn message(s: &mut Sheet, m: &TlsMessage) {
     }
 }
 
-/// What the trait `ClientHello` hands out: the fields again, the random behind its
-/// first four bytes, and no time, whatever the random (docs/DIFFERENCES.md).
+/// What the trait `ClientHello` hands out: the fields again. Time and bytes of the random,
+/// which it adds to them, are told by `randoms`.
 fn accessors(h: &TlsClientHelloContents) {
     assert_eq!(h.version(), h.version);
     assert_eq!(h.random(), h.random);
-    assert_eq!(h.rand_time(), 0);
-    assert_eq!(h.rand_bytes(), &h.random[4..]);
     assert_eq!(h.session_id(), h.session_id);
     assert_eq!(h.ciphers(), &h.ciphers);
     assert_eq!(h.comp(), &h.comp);

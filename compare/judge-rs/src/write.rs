@@ -46,12 +46,15 @@ fn written(name: &str, i: &[u8]) -> Written {
     }
 }
 
-pub fn client(m: &Client) -> Written {
+pub fn hello<'a>(m: &Client<'a>) -> TlsClientHelloContents<'a> {
     let pairs = m.ciphers.chunks_exact(2);
     let ciphers = pairs.map(|c| TlsCipherSuiteID(u16::from_be_bytes([c[0], c[1]]))).collect();
     let methods = m.methods.iter().map(|n| TlsCompressionID(*n)).collect();
-    let hello = TlsClientHelloContents::new(m.version, m.random, m.id, ciphers, methods, m.ext);
-    gen_simple(gen_tls_clienthello(&hello), Vec::new())
+    TlsClientHelloContents::new(m.version, m.random, m.id, ciphers, methods, m.ext)
+}
+
+pub fn client(m: &Client) -> Written {
+    gen_simple(gen_tls_clienthello(&hello(m)), Vec::new())
 }
 
 pub fn server(m: &Server) -> Written {

@@ -1,5 +1,6 @@
 //! Wrong answers, laid over right ones.
 
+mod randoms;
 mod readings;
 mod writings;
 
@@ -17,6 +18,8 @@ pub enum Fault {
     Writing(fn(&Case, &[u8], &mut [u8], Wrote) -> Wrote),
     /// Changes the walk over a record.
     Walk(fn(Walk) -> Walk),
+    /// Changes what is handed out of randoms.
+    Random(fn(&Case, &mut Vec<u64>)),
     /// Changes what the original reads.
     Original(fn(&Case, &mut Vec<u64>)),
 }
@@ -42,6 +45,13 @@ impl<P: Port> Port for Faulty<P> {
         }
     }
 
+    fn randoms(&self, case: &Case, to: &mut Vec<u64>) {
+        self.port.randoms(case, to);
+        if let Fault::Random(change) = self.fault {
+            change(case, to);
+        }
+    }
+
     fn write(&self, case: &Case, room: &mut [u8]) -> Wrote {
         let Fault::Writing(change) = self.fault else { return self.port.write(case, room) };
         let before = room.to_vec();
@@ -51,7 +61,7 @@ impl<P: Port> Port for Faulty<P> {
 }
 
 /// What is wrong, and how it is made.
-pub const ALL: [(&str, Fault); 26] = [
+pub const ALL: [(&str, Fault); 29] = [
     ("the rest one byte further", Fault::Reading(readings::rest)),
     ("another refusal", Fault::Reading(readings::refusal)),
     ("a refusal for a value", Fault::Reading(readings::refused)),
@@ -68,6 +78,9 @@ pub const ALL: [(&str, Fault); 26] = [
     ("an alert record as Switch", Fault::Reading(readings::alert)),
     ("a byte too many told as dropped", Fault::Walk(readings::dropped)),
     ("a walk that ends with Incomplete", Fault::Walk(readings::ended)),
+    ("the first bytes of a longer random as its time", Fault::Random(randoms::longer)),
+    ("a random of four bytes without a time", Fault::Random(randoms::four)),
+    ("the bytes of a random from the fourth on", Fault::Random(randoms::early)),
     ("a panic of the port", Fault::Reading(readings::panic)),
     ("a panic of the original", Fault::Original(readings::panic)),
     ("a written byte changed", Fault::Writing(writings::byte)),

@@ -26,6 +26,10 @@ impl Port for Linked {
         }
     }
 
+    fn randoms(&self, case: &Case, to: &mut Vec<u64>) {
+        *to = support::randoms::numbers(case.function, &case.input);
+    }
+
     fn write(&self, case: &Case, room: &mut [u8]) -> Result<usize, u64> {
         let wrote = support::writing::write(case.function, &case.input, room).expect("a value");
         wrote.map_err(|refused| refused.number().into())

@@ -15,6 +15,7 @@ mod paper;
 mod parts;
 mod port;
 mod progress;
+mod randoms;
 mod reading;
 mod refusals;
 mod report;
@@ -74,6 +75,9 @@ fn compared(cases: u64, seed: u64) -> ExitCode {
     }
     ended.expect("a run to its end");
     println!("{}", run.tally.table());
+    let randoms = &run.bench.randoms;
+    let (compared, of_four) = (grouped(randoms.compared), grouped(randoms.of_four));
+    println!("rand_time and rand_bytes of {compared} cases, {of_four} of them made up with a random of four bytes\n");
     println!("SEED {seed}: {} cases compared, 0 unlisted differences", grouped(run.tally.cases));
     ExitCode::SUCCESS
 }

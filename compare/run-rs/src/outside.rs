@@ -14,7 +14,7 @@ type Out<'a> = &'a mut dyn FnMut(&Case) -> io::Result<()>;
 /// The longest body that a message can announce.
 const BODY: usize = 0xff_ffff;
 
-const RANDOM: [usize; 6] = [0, 1, 31, 33, 64, 288];
+const RANDOM: [usize; 9] = [0, 1, 3, 4, 5, 31, 33, 64, 288];
 const ID: [usize; 6] = [33, 34, 255, 256, 257, 288];
 const CIPHERS: [usize; 8] = [1, 3, 65_533, 65_535, 65_536, 65_537, 65_538, 131_072];
 const METHODS: [usize; 5] = [256, 257, 511, 512, 65_536];
@@ -103,6 +103,10 @@ fn broken(rng: &mut Rng, case: &Case) -> Option<Vec<u8>> {
     Some(value.input())
 }
 
+/// One in eight has four bytes, of which the original's `rand_time` is the number.
 fn not_32(rng: &mut Rng) -> usize {
+    if rng.below(8) == 0 {
+        return 4;
+    }
     (33 + rng.below(99)) % 100
 }

@@ -2,6 +2,7 @@
 //! crate `norrabist` alone.
 #![allow(dead_code)] // each test takes what it needs
 
+pub mod randoms;
 pub mod reading;
 pub mod sheet;
 pub mod text;

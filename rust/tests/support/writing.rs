@@ -88,7 +88,7 @@ impl<'a> Said<'a> {
     }
 }
 
-fn client(i: &[u8]) -> Option<TlsClientHelloContents<'_>> {
+pub fn client(i: &[u8]) -> Option<TlsClientHelloContents<'_>> {
     let mut said = Said::new(i, 24)?;
     let version = said.number16()?;
     let (random, id) = (said.part()?, said.optional()?);

@@ -1,0 +1,56 @@
+//! What both hand out of the random of every ClientHello of a case: its time and its bytes.
+
+use crate::guard::{self, last_panic, PANIC};
+use crate::port::Port;
+use crate::verdict::Verdict;
+use judge::case::Case;
+use judge::functions::*;
+use judge::made::Client;
+use judge::{randoms, text};
+
+/// What both said of the last case, and how many were compared.
+#[derive(Default)]
+pub struct Randoms {
+    original: Vec<u64>,
+    port: Vec<u64>,
+    /// Cases with a ClientHello that was read or made up.
+    pub compared: u64,
+    /// Those made up with a random of four bytes, the only ones whose time can be other than 0.
+    pub of_four: u64,
+}
+
+impl Randoms {
+    /// Whether both say the same, of what was accepted by a reader or made up for a writer.
+    pub fn compare(&mut self, port: &impl Port, case: &Case, verdict: Verdict) -> bool {
+        self.original.clear();
+        self.port.clear();
+        let made_up = case.function == GEN_CLIENT_HELLO;
+        if !made_up && !(is_asked(case.function) && verdict == Verdict::Same(0)) {
+            return true;
+        }
+        guard::numbers(&mut self.original, |to| randoms::read(case, to));
+        guard::numbers(&mut self.port, |to| port.randoms(case, to));
+        self.compared += u64::from(!self.original.is_empty());
+        self.of_four += u64::from(made_up && Client::read(&case.input).random.len() == 4);
+        self.original == self.port && self.original != [PANIC]
+    }
+
+    /// What both said, if they were asked: the original, the port.
+    pub fn told(&self) -> Option<(String, String)> {
+        let asked = !self.original.is_empty() || !self.port.is_empty();
+        asked.then(|| (told(&self.original), told(&self.port)))
+    }
+}
+
+/// The readers that can find a ClientHello.
+fn is_asked(function: &str) -> bool {
+    matches!(function, CLIENT_HELLO | MSG_CLIENT_HELLO | MESSAGE | PLAINTEXT)
+}
+
+fn told(numbers: &[u64]) -> String {
+    match numbers {
+        [PANIC] => format!("a panic: {}", last_panic()),
+        [] => "no random".into(),
+        _ => format!("rand_time and rand_bytes {}", text::numbers(numbers)),
+    }
+}
