@@ -74,34 +74,21 @@ pub(crate) fn backs() {
     server(b"0300 Z 00 002f 00 into 44 bytes", &s, 44, out);
 }
 
+// A Finished whose part lies in two bytes, into five.
+fn finished(text: &[u8], v: View) {
+    let s = [0x11u8; 2];
+    let out = [0xaau8; MOST];
+    message(text, TlsMessageHandshake::Finished(v), &s, 5, out);
+}
+
 // A kind that is not written comes before a view outside, and that before the room.
 pub(crate) fn orders() {
     let s = [0x11u8; 2];
     let out = [0xaau8; MOST];
-    let inside = View { start: 0, len: 1 };
-    let long = View { start: 0, len: 2 };
     let outside = View { start: 1, len: 2 };
-    message(
-        b"Finished 11 into 5 bytes",
-        TlsMessageHandshake::Finished(inside),
-        &s,
-        5,
-        out,
-    );
-    message(
-        b"Finished 1111 into 5 bytes",
-        TlsMessageHandshake::Finished(long),
-        &s,
-        5,
-        out,
-    );
-    message(
-        b"Finished outside into 5 bytes",
-        TlsMessageHandshake::Finished(outside),
-        &s,
-        5,
-        out,
-    );
+    finished(b"Finished 11 into 5 bytes", View { start: 0, len: 1 });
+    finished(b"Finished 1111 into 5 bytes", View { start: 0, len: 2 });
+    finished(b"Finished outside into 5 bytes", outside);
     message(
         b"ServerDone outside into 5 bytes",
         TlsMessageHandshake::ServerDone(outside),
