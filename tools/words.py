@@ -14,6 +14,12 @@ TAKEN = re.compile(r"^(pub )?use (\S+?)\.\{([^}]*)\}$")
 LENT = re.compile(r"^ghost use (\S+?)\.\{([^}]*)\};$", re.M)
 FILE = re.compile(r"Rattle·(\w+?)(?:·specs)?\.specs\.([A-Z]\w*)$")
 WORD = re.compile(r"[^\s(){},;.⌜⌝\[\]]+")
+FIELD = re.compile(r"(?<=[\s(])\.\S+")
+
+
+def words_of(text):
+    """The words of a text that may name a definition: a field that is taken of a record, ` .name`, does not."""
+    return WORD.findall(FIELD.sub(" ", text))
 
 
 class File:
@@ -76,7 +82,7 @@ def closure(known, found):
         path, name = left.pop()
         if (path, name) not in reached:
             reached.add((path, name))
-            meant = (resolve(known, known[path], word) for line in known[path].defined[name] for word in WORD.findall(line))
+            meant = (resolve(known, known[path], word) for line in known[path].defined[name] for word in words_of(line))
             left += [one for one in meant if one]
     return reached
 
@@ -102,7 +108,7 @@ def needed(root, known, crates, answers=False):
                 for fact in source.facts(function):
                     if answers and fact.startswith(SPLITS):
                         continue
-                    found |= {one for word in WORD.findall(fact) if (one := resolve(known, lent[function.file], word))}
+                    found |= {one for word in words_of(fact) if (one := resolve(known, lent[function.file], word))}
     return closure(known, found)
 
 

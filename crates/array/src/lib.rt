@@ -23,7 +23,7 @@ pub fn gen_numbers(out: &mut [usize], at: usize, src: &[usize]) -> u8
     ensures { λ r. ⌜ r ≡ numberIn (room (Answer.accepted (now (src .entry))) at (now (out .entry))) ⌝ }
     ensures { λ _. ⌜ now (out .exit) ≡ written (Answer.accepted (now (src .entry))) at (now (out .entry)) ⌝ }
 {
-    let refused = refusal::refusal_number(refusal::refuse(Reason::NoRoom, 0, 0));
+    let refused = refusal::refusal_number(refusal::unplaced(Reason::NoRoom));
     if out.len() < at {
         return refused;
     }

@@ -1,7 +1,12 @@
 // The bodies that hold fields, opened as messages.
 ghost use mathlib.Core.Path.{_≡_};
-ghost use Rattle.bodies.specs.Bodies.{certificateMessage, keyUpdateMessage, nextProtocolMessage, requestMessage, statusMessage, ticketMessage};
+ghost use Rattle.refusal.specs.Answers.{giving};
+ghost use Rattle.body.specs.Body.{nextProtocol, sessionTicket};
+ghost use Rattle.certs.specs.Certs.{certificate, certificateRequest, status};
+ghost use Rattle.grammar.specs.Forms.{reading};
 ghost use Rattle.message.specs.Messages.{messageSays};
+ghost use Rattle.message.specs.declared.handshake.TlsMessageHandshake.the-variants.{Certificate, CertificateRequest, CertificateStatus, KeyUpdate, NewSessionTicket, NextProtocol};
+ghost use Rattle.wire.specs.Numbers.{numberAt};
 use body::next_protocol::NextProtocolAnswer;
 use body::ticket::NewSessionTicketAnswer;
 use certs::certificate::CertificateAnswer;
@@ -14,7 +19,7 @@ use wire::number::Width;
 
 // The body has `len` bytes.
 pub fn parse_tls_handshake_msg_newsessionticket(i: &[u8], len: usize) -> MessageAnswer
-    ensures { λ r. ⌜ messageSays r ≡ ticketMessage len (now (i .entry)) ⌝ }
+    ensures { λ r. ⌜ messageSays r ≡ giving (λ c. NewSessionTicket c) (sessionTicket len (now (i .entry))) ⌝ }
 {
     match body::ticket::parse_tls_newsessionticket(i, len) {
         NewSessionTicketAnswer::Refused(r) => MessageAnswer::Refused(r),
@@ -25,7 +30,7 @@ pub fn parse_tls_handshake_msg_newsessionticket(i: &[u8], len: usize) -> Message
 }
 
 pub fn parse_tls_handshake_msg_certificate(i: &[u8]) -> MessageAnswer
-    ensures { λ r. ⌜ messageSays r ≡ certificateMessage (now (i .entry)) ⌝ }
+    ensures { λ r. ⌜ messageSays r ≡ giving (λ c. Certificate c) (reading certificate (now (i .entry))) ⌝ }
 {
     match certs::certificate::parse_tls_certificate(i) {
         CertificateAnswer::Refused(r) => MessageAnswer::Refused(r),
@@ -34,7 +39,7 @@ pub fn parse_tls_handshake_msg_certificate(i: &[u8]) -> MessageAnswer
 }
 
 pub fn parse_tls_handshake_msg_certificaterequest(i: &[u8]) -> MessageAnswer
-    ensures { λ r. ⌜ messageSays r ≡ requestMessage (now (i .entry)) ⌝ }
+    ensures { λ r. ⌜ messageSays r ≡ giving (λ c. CertificateRequest c) (certificateRequest (now (i .entry))) ⌝ }
 {
     match certs::request::parse_tls_handshake_certificaterequest(i) {
         CertificateRequestAnswer::Refused(r) => MessageAnswer::Refused(r),
@@ -45,7 +50,7 @@ pub fn parse_tls_handshake_msg_certificaterequest(i: &[u8]) -> MessageAnswer
 }
 
 pub fn parse_tls_handshake_msg_certificatestatus(i: &[u8]) -> MessageAnswer
-    ensures { λ r. ⌜ messageSays r ≡ statusMessage (now (i .entry)) ⌝ }
+    ensures { λ r. ⌜ messageSays r ≡ giving (λ c. CertificateStatus c) (reading status (now (i .entry))) ⌝ }
 {
     match certs::status::parse_tls_handshake_certificatestatus(i) {
         CertificateStatusAnswer::Refused(r) => MessageAnswer::Refused(r),
@@ -56,7 +61,7 @@ pub fn parse_tls_handshake_msg_certificatestatus(i: &[u8]) -> MessageAnswer
 }
 
 pub fn parse_tls_handshake_msg_next_protocol(i: &[u8]) -> MessageAnswer
-    ensures { λ r. ⌜ messageSays r ≡ nextProtocolMessage (now (i .entry)) ⌝ }
+    ensures { λ r. ⌜ messageSays r ≡ giving (λ c. NextProtocol c) (reading nextProtocol (now (i .entry))) ⌝ }
 {
     match body::next_protocol::parse_tls_handshake_next_protocol(i) {
         NextProtocolAnswer::Refused(r) => MessageAnswer::Refused(r),
@@ -65,7 +70,7 @@ pub fn parse_tls_handshake_msg_next_protocol(i: &[u8]) -> MessageAnswer
 }
 
 pub fn parse_tls_handshake_msg_key_update(i: &[u8]) -> MessageAnswer
-    ensures { λ r. ⌜ messageSays r ≡ keyUpdateMessage (now (i .entry)) ⌝ }
+    ensures { λ r. ⌜ messageSays r ≡ giving (λ n. KeyUpdate (n .value)) (numberAt 1 (now (i .entry)) 0) ⌝ }
 {
     match wire::number::parse_be(i, 0, Width::One) {
         NumberAnswer::Refused(r) => MessageAnswer::Refused(r),

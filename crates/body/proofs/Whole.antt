@@ -1,51 +1,44 @@
 -- What demand 3 says of the hellos, of these bodies, instances of the one theorem, and the ticket by the length given; and equal numbers
 -- and values mean equal answers. Assumes nothing.
 use Prim.Native.Nat.{ℕ}
-use mathlib.Core.Path.{_≡_, refl, _∙_}
+use mathlib.Core.Path.{_≡_, refl}
 use mathlib.Core.List.{List}
 use native.Mathlib.Omega.{arith}
 use Rattle.refusal.specs.Answers.{Answer, accepted, refused, OneResult}
 use Rattle.refusal.proofs.Told.{tells-all}
 use Rattle.wire.specs.Numbers.{Bytes}
 use Rattle.field.specs.Fields.{fixed}
-use Rattle.field.proofs.Rules.{fixed-in}
 use Rattle.field.proofs.Steps.{step-lacks}
-use Rattle.grammar.specs.Lawful.{Lawful}
+use Rattle.grammar.specs.Demand3.{BySplit, Lawful}
 use Rattle.grammar.proofs.Forms.{by-split}
-use Rattle.body.specs.Retry.{retry, retrySays}
-use Rattle.body.specs.Ticket.{ticket, ticketSays}
-use Rattle.body.specs.NextProtocol.{nextProtocol, nextProtocolSays}
-use Rattle.body.specs.Whole.{OfTicket, AllBodies}
+use Rattle.body.specs.Body.{retry, retrySays, ticketSays, nextProtocol, nextProtocolSays, OfTicket}
 use Rattle.body.specs.declared.retry.TlsHelloRetryRequestContents.{TlsHelloRetryRequestContents}
 use Rattle.body.specs.declared.retry.HelloRetryRequestAnswer.{HelloRetryRequestAnswer}
 use Rattle.body.specs.declared.ticket.TlsNewSessionTicketContent.{TlsNewSessionTicketContent}
 use Rattle.body.specs.declared.ticket.NewSessionTicketAnswer.{NewSessionTicketAnswer}
 use Rattle.body.specs.declared.next_protocol.TlsNextProtocolContent.{TlsNextProtocolContent}
 use Rattle.body.specs.declared.next_protocol.NextProtocolAnswer.{NextProtocolAnswer}
-use Rattle.body.proofs.Tickets.{under-4, past-end, by-form, form-whole}
+use Rattle.body.proofs.Tickets.{under-4, past-end, whole, splits, only}
 
 retry-lawful : Lawful retry
 retry-lawful = record { suits = (refl, (refl, tt)); handed = λ o e t. refl; block = λ o e t. refl; tail = λ o e t. refl }
 
-ticket-lawful : (n : ℕ) → Lawful (ticket n)
-ticket-lawful n = record { suits = (refl, (tt, tt)); handed = λ o e t. refl; block = λ o e t. refl; tail = λ o e t. refl }
-
 next-protocol-lawful : Lawful nextProtocol
 next-protocol-lawful = record { suits = (tt, (tt, tt)); handed = λ o e t. refl; block = λ o e t. refl; tail = λ o e t. refl }
 
-of-ticket : (n : ℕ) (s : List ℕ) → Bytes s → OfTicket n s
+pub splits-retry : (body : List ℕ) → Bytes body → BySplit retry body
+splits-retry = by-split retry retry-lawful
+
+pub splits-next-protocol : (body : List ℕ) → Bytes body → BySplit nextProtocol body
+splits-next-protocol = by-split nextProtocol next-protocol-lawful
+
+pub of-ticket : (n : ℕ) (body : List ℕ) → Bytes body → OfTicket n body
 of-ticket n s b = record {
   under4 = under-4 n s;
   short = λ h r f. past-end n s h (step-lacks (fixed n) s 0 r (omega arith) f);
-  whole = λ h i. by-form n s h (fixed-in n s 0 (omega arith)) ∙ form-whole n s h i;
-  byForm = λ h i. (by-form n s h (fixed-in n s 0 (omega arith)), by-split (ticket n) (ticket-lawful n) s b);
-}
-
-pub all-bodies : AllBodies
-all-bodies s b = record {
-  ofRetry = by-split retry retry-lawful s b;
-  ofTicket = λ n. of-ticket n s b;
-  ofNextProtocol = by-split nextProtocol next-protocol-lawful s b;
+  whole = whole n s;
+  splits = splits n s b;
+  only = only n s;
 }
 
 abbrev retry-back : Answer TlsHelloRetryRequestContents → HelloRetryRequestAnswer

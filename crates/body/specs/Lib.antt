@@ -1,4 +1,1 @@
-pub mod Retry
-pub mod Ticket
-pub mod NextProtocol
-pub mod Whole
+pub mod Body

@@ -1,6 +1,6 @@
 // The NextProtocol (draft-agl-tls-nextprotoneg-03).
 ghost use mathlib.Core.Path.{_≡_};
-ghost use Rattle.body.specs.NextProtocol.{nextProtocol, nextProtocolSays};
+ghost use Rattle.body.specs.Body.{nextProtocol, nextProtocolSays};
 ghost use Rattle.grammar.specs.Forms.{reading};
 use field::Kind;
 use refusal::Refusal;

@@ -1,6 +1,6 @@
 // The HelloRetryRequest of TLS 1.3 draft 18 (draft-ietf-tls-tls13-18, 4.1.4).
 ghost use mathlib.Core.Path.{_≡_};
-ghost use Rattle.body.specs.Retry.{retry, retrySays};
+ghost use Rattle.body.specs.Body.{retry, retrySays};
 ghost use Rattle.grammar.specs.Forms.{reading};
 use field::Kind;
 use refusal::Refusal;

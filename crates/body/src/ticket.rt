@@ -1,6 +1,6 @@
 // The NewSessionTicket (RFC 5077 3.3), as the crate reads it.
 ghost use mathlib.Core.Path.{_≡_};
-ghost use Rattle.body.specs.Ticket.{sessionTicket, ticketSays};
+ghost use Rattle.body.specs.Body.{sessionTicket, ticketSays};
 use refusal::Reason;
 use refusal::Refusal;
 use wire::number::NumberAnswer;

@@ -8,7 +8,7 @@ use borrow.Author.Tests.{leb-true, leb-false, le-leb, lt-leb}
 use lib.Dec.{eqb, leb}
 use lib.ListN.{length, take, drop, length-drop}
 use lib.Seq.{length-take-le, take-take, take-add, drop-at, drop-drop}
-use Rattle.refusal.specs.Answers.{Answer, accepted, refused, then}
+use Rattle.refusal.specs.Answers.{Answer, accepted, then}
 use Rattle.refusal.proofs.Then.{then-accepted}
 use Rattle.wire.specs.Parts.{pick, partOf}
 use Rattle.wire.specs.declared.view.View.{View}
@@ -16,7 +16,7 @@ use Rattle.wire.specs.declared.view.Part.{Part}
 use Rattle.field.specs.Fields.{Field, fixed, step, ruleOf}
 use Rattle.field.specs.declared.Kind.the-variants.{Fragment}
 use Rattle.field.proofs.Rules.{step-in, counted-lies}
-use Rattle.grammar.specs.Grammars.{Each}
+use Rattle.grammar.specs.Grammars.{How, asView, asNumber, Row, Views}
 use Rattle.grammar.specs.Reading.{fieldsAt, lastAt, withLast}
 use Rattle.grammar.specs.Forms.{valueOf, reading}
 use Rattle.grammar.proofs.Chain.{begin-on}
@@ -25,7 +25,7 @@ use Rattle.record.specs.Records.{raw, fragment}
 use Rattle.record.specs.declared.TlsRawRecord.{TlsRawRecord}
 use Rattle.walk.specs.Walks.{messages}
 use Rattle.walk.proofs.Walking.{every-walk}
-use Rattle.capture.specs.Captures.{viewIn, SameBytes, recordFrom, messagesIn}
+use Rattle.capture.specs.Captures.{viewIn, recordFrom, messagesIn}
 
 -- the part of a view that lies within the bytes, and of one that does not
 part-is : (s : List ℕ) (v : View) → v .start + v .len ≤ length s → partOf s v ≡ take (v .len) (drop (v .start) s)
@@ -65,21 +65,21 @@ pub record Lies (s : List ℕ) (r : TlsRawRecord) : Type 0 where
   pub holds : r .«data» .start + r .«data» .len ≡ r .next
   pub inside : r .next ≤ length s
 
--- a field's view, and those of the fields after it
-abbrev added : (f : Field) (fs : List Field) → Part → Each View fs × ℕ → Answer (Each View (f ∷ fs) × ℕ)
-added f fs p q = accepted ((p .view, q .0), q .1)
+-- a row's view, and those of the rows after it
+abbrev added : (w : Row) (rs : List Row) → Part → Views rs × ℕ → Answer (Views (w ∷ rs) × ℕ)
+added w rs p q = accepted ((p .view, q .0), q .1)
 
--- the first of some fields, and the others
-first-field : (f : Field) (fs : List Field) (s : List ℕ) (at : ℕ) {q : Each View (f ∷ fs) × ℕ} → fieldsAt (f ∷ fs) s at ≡ accepted q
-    → (p : Part) × (step f s at ≡ accepted p) × (p .view ≡ q .0 .0) × (fieldsAt fs s (p .next) ≡ accepted (q .0 .1, q .1))
+-- the first of some rows, and the others
+first-field : (f : Field) (m : How) (rs : List Row) (s : List ℕ) (at : ℕ) {q : Views ((f, m) ∷ rs) × ℕ} → fieldsAt ((f, m) ∷ rs) s at ≡ accepted q
+    → (p : Part) × (step f s at ≡ accepted p) × (p .view ≡ q .0 .0) × (fieldsAt rs s (p .next) ≡ accepted (q .0 .1, q .1))
 unfolding fieldsAt
-first-field f fs s at {q} e =
-    let t = then-accepted (step f s at) (λ p. then (fieldsAt fs s (p .next)) (added f fs p)) e in
-    let u = then-accepted (fieldsAt fs s (t .0 .next)) (added f fs (t .0)) (t .2) in
-    let d : _≡_ {A = Each View (f ∷ fs) × ℕ} ((t .0 .view, u .0 .0), u .0 .1) q = cc (u .2) in
-    (t .0, t .1, ap (λ (x : Each View (f ∷ fs) × ℕ). x .0 .0) d, u .1 ∙ ap (λ (x : Each View (f ∷ fs) × ℕ). accepted (x .0 .1, x .1)) d)
+first-field f m rs s at {q} e =
+    let t = then-accepted (step f s at) (λ p. then (fieldsAt rs s (p .next)) (added (f, m) rs p)) e in
+    let u = then-accepted (fieldsAt rs s (t .0 .next)) (added (f, m) rs (t .0)) (t .2) in
+    let d : _≡_ {A = Views ((f, m) ∷ rs) × ℕ} ((t .0 .view, u .0 .0), u .0 .1) q = cc (u .2) in
+    (t .0, t .1, ap (λ (x : Views ((f, m) ∷ rs) × ℕ). x .0 .0) d, u .1 ∙ ap (λ (x : Views ((f, m) ∷ rs) × ℕ). accepted (x .0 .1, x .1)) d)
 
-last-field : (s : List ℕ) (at : ℕ) {q : Each View [] × ℕ} → fieldsAt [] s at ≡ accepted q → at ≡ q .1
+last-field : (s : List ℕ) (at : ℕ) {q : Views [] × ℕ} → fieldsAt [] s at ≡ accepted q → at ≡ q .1
 unfolding fieldsAt
 last-field s at {q} e = let d : _≡_ {A = Unit × ℕ} (tt, at) q = cc in ap (λ (x : Unit × ℕ). x .1) d
 
@@ -88,10 +88,10 @@ same-value e = cc
 
 pub raw-lies : (s : List ℕ) {r : TlsRawRecord} → reading raw s ≡ accepted r → Lies s r
 raw-lies s {r} e =
-    let t = then-accepted (fieldsAt (fixed 1 ∷ fixed 2 ∷ fragment ∷ []) s 0) (λ q. accepted (valueOf raw s (withLast (raw .grammar) (q .0) (lastAt (raw .grammar .block) s (q .1))))) (sym (begin-on raw s) ∙ e) in
-    let a = first-field (fixed 1) (fixed 2 ∷ fragment ∷ []) s 0 (t .1) in
-    let b = first-field (fixed 2) (fragment ∷ []) s (a .0 .next) (a .3) in
-    let d = first-field fragment [] s (b .0 .next) (b .3) in
+    let t = then-accepted (fieldsAt (raw .grammar .rows) s 0) (λ q. accepted (valueOf raw s (withLast (raw .grammar) (q .0) (lastAt (raw .grammar .block) s (q .1))))) (sym (begin-on raw s) ∙ e) in
+    let a = first-field (fixed 1) (asNumber 1) ((fixed 2, asNumber 2) ∷ (fragment, asView) ∷ []) s 0 (t .1) in
+    let b = first-field (fixed 2) (asNumber 2) ((fragment, asView) ∷ []) s (a .0 .next) (a .3) in
+    let d = first-field fragment asView [] s (b .0 .next) (b .3) in
     let l = counted-lies 2 (ruleOf Fragment) s (b .0 .next) (d .1) in
     let h = step-in (fixed 1) s 0 (a .1) in
     let i = step-in (fixed 2) s (a .0 .next) (b .1) in
@@ -135,14 +135,6 @@ module _ (s : List ℕ) (outer inner : View) where
   nested : View
   nested = record { start = outer .start + inner .start; len = inner .len }
 
-  view-inside : inner .start + inner .len ≤ length (partOf s outer) → viewIn s outer inner ≡ nested
-  unfolding viewIn nested
-  view-inside h = rw (le-leb (inner .start + inner .len) (length (partOf s outer)) h)
-
-  view-outside : length (partOf s outer) < inner .start + inner .len → viewIn s outer inner ≡ record { start = 0; len = 0 }
-  unfolding viewIn
-  view-outside h = rw (lt-leb (inner .start + inner .len) (length (partOf s outer)) h)
-
   inside-same : inner .start + inner .len ≤ length (partOf s outer) → partOf s nested ≡ partOf (partOf s outer) inner
   unfolding nested
   inside-same h = go (leb (outer .start + outer .len) (length s)) refl
@@ -160,13 +152,15 @@ module _ (s : List ℕ) (outer inner : View) where
           let z : inner .len ≡ 0 = omega arith in
           no-part s nested z ∙ sym (no-part (partOf s outer) inner z)
 
-pub same-bytes : SameBytes
+-- a view names the same bytes counted from either place
+pub same-bytes : (s : List ℕ) (outer inner : View) → partOf s (viewIn s outer inner) ≡ partOf (partOf s outer) inner
+unfolding viewIn nested
 same-bytes s outer inner = go (leb (inner .start + inner .len) (length (partOf s outer))) refl
   where
     go : (t : Bool) → leb (inner .start + inner .len) (length (partOf s outer)) ≡ t → partOf s (viewIn s outer inner) ≡ partOf (partOf s outer) inner
     go true q =
-        let h : inner .start + inner .len ≤ length (partOf s outer) = leb-true _ _ q in
-        ap (partOf s) (view-inside s outer inner h) ∙ inside-same s outer inner h
+        let e : viewIn s outer inner ≡ nested s outer inner = rw q in
+        ap (partOf s) e ∙ inside-same s outer inner (leb-true _ _ q)
     go false q =
-        let h : length (partOf s outer) < inner .start + inner .len = leb-false _ _ q in
-        ap (partOf s) (view-outside s outer inner h) ∙ no-part s (record { start = 0; len = 0 }) refl ∙ sym (part-none (partOf s outer) inner h)
+        let e : viewIn s outer inner ≡ record { start = 0; len = 0 } = rw q in
+        ap (partOf s) e ∙ no-part s (record { start = 0; len = 0 }) refl ∙ sym (part-none (partOf s outer) inner (leb-false _ _ q))

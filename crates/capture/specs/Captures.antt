@@ -1,10 +1,5 @@
--- Joined records: the record at a place, all of them from the front on, and places counted from there. That a view names the same bytes
--- counted from either place is shown by `proofs/Captures.antt`.
-use Prim.Native.Nat.{ℕ, _+_}
-use mathlib.Core.Path.{_≡_}
-use mathlib.Core.List.{List, [], _∷_}
-use lib.ListN.{length, drop}
-use lib.Dec.{eqb, leb}
+-- Joined records: the record at a place, all of them from the front on, and places counted from there.
+use Rattle.refusal.specs.Words.{ℕ, _+_, List, foldl, foldr, length, drop, eqb, leb}
 use Rattle.refusal.specs.Answers.{Answer, accepted, then}
 use Rattle.wire.specs.Parts.{pick, partOf}
 use Rattle.wire.specs.declared.view.View.{View}
@@ -22,9 +17,6 @@ viewIn s outer inner =
     (record { start = outer .start + inner .start; len = inner .len })
     (record { start = 0; len = 0 })
 
-abbrev pub SameBytes : Type 0
-SameBytes = (s : List ℕ) (outer inner : View) → partOf s (viewIn s outer inner) ≡ partOf (partOf s outer) inner
-
 -- the record that begins at a place
 unfoldable pub recordFrom : List ℕ → ℕ → Answer TlsRawRecord
 recordFrom s at =
@@ -35,18 +27,11 @@ recordFrom s at =
 abbrev pub records : List ℕ → List TlsRawRecord
 records s = itemsFrom (length s) (recordFrom s) (λ r. r .next) 0
 
--- the place past all of them, the first beginning at a place
-unfoldable pub pastRecords : List TlsRawRecord → ℕ → ℕ
-pastRecords [] at = at
-pastRecords (r ∷ rs) at = pastRecords rs (r .next)
-
 -- how many messages a record holds: those of 0x16 are opened
 unfoldable pub messagesIn : List ℕ → TlsRawRecord → ℕ
 messagesIn s r = pick (eqb (r .hdr .«record_type») 0x16) (length (messages (partOf s (r .«data»)))) 0
 
-unfoldable pub messagesOfAll : List ℕ → List TlsRawRecord → ℕ
-messagesOfAll s [] = 0
-messagesOfAll s (r ∷ rs) = messagesIn s r + messagesOfAll s rs
-
+-- how many they are, the sum of their messages, and the place past the last of them
 unfoldable pub tallied : List ℕ → RecordTally
-tallied s = record { «records» = length (records s); messages = messagesOfAll s (records s); end = pastRecords (records s) 0 }
+tallied s =
+    record { «records» = length (records s); messages = foldr (λ r n. messagesIn s r + n) 0 (records s); end = foldl (λ at r. r .next) 0 (records s) }

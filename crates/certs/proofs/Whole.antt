@@ -2,16 +2,14 @@
 -- and values mean equal answers. Assumes nothing.
 use Prim.Native.Nat.{ℕ}
 use mathlib.Core.Path.{_≡_, refl}
+use mathlib.Core.Bool.{Bool, true, false}
 use mathlib.Core.List.{List}
 use Rattle.refusal.specs.Answers.{Answer, accepted, refused, OneResult}
 use Rattle.refusal.proofs.Told.{tells-all}
-use Rattle.grammar.specs.Demand3.{BySplit}
-use Rattle.grammar.specs.Lawful.{Lawful}
+use Rattle.wire.specs.Numbers.{Bytes}
+use Rattle.grammar.specs.Demand3.{BySplit, Lawful}
 use Rattle.grammar.proofs.Forms.{by-split}
-use Rattle.certs.specs.Certificate.{certificate, certificateSays}
-use Rattle.certs.specs.Request.{long, short, certificateRequest, requestSays}
-use Rattle.certs.specs.Status.{status, statusSays}
-use Rattle.certs.specs.Whole.{OfRequest, AllBodies}
+use Rattle.certs.specs.Certs.{certificate, certificateSays, request, certificateRequest, requestSays, status, statusSays, OfRequest}
 use Rattle.certs.specs.declared.certificate.TlsCertificateContents.{TlsCertificateContents}
 use Rattle.certs.specs.declared.certificate.CertificateAnswer.{CertificateAnswer}
 use Rattle.certs.specs.declared.request.TlsCertificateRequestContents.{TlsCertificateRequestContents}
@@ -22,32 +20,32 @@ use Rattle.certs.specs.declared.status.CertificateStatusAnswer.{Certific
 certificate-lawful : Lawful certificate
 certificate-lawful = record { suits = (tt, tt); handed = λ o e t. refl; block = λ o e t. refl; tail = λ o e t. refl }
 
-long-lawful : Lawful long
-long-lawful = record { suits = (tt, (tt, (tt, tt))); handed = λ o e t. refl; block = λ o e t. refl; tail = λ o e t. refl }
-
-short-lawful : Lawful short
-short-lawful = record { suits = (tt, (tt, tt)); handed = λ o e t. refl; block = λ o e t. refl; tail = λ o e t. refl }
+request-lawful : (long : Bool) → Lawful (request long)
+request-lawful long = record { suits = (tt, (tt, (tt, tt))); handed = λ o e t. refl; block = λ o e t. refl; tail = λ o e t. refl }
 
 status-lawful : Lawful status
 status-lawful = record { suits = (refl, (tt, tt)); handed = λ o e t. refl; block = λ o e t. refl; tail = λ o e t. refl }
 
--- the two forms one after the other, by the theorem of each
-of-request : (s : List ℕ) → BySplit long s → BySplit short s → OfRequest s
-unfolding certificateRequest
-of-request s l h = record {
-  asLong = λ x y. rw (l .accepts x y);
-  asShort = λ r f x y. rw (l .refuses r f, h .accepts x y);
-  neither = λ r t f g. rw (l .refuses r f, h .refuses t g);
-}
+pub splits-certificate : (body : List ℕ) → Bytes body → BySplit certificate body
+splits-certificate = by-split certificate certificate-lawful
 
-pub all-bodies : AllBodies
-all-bodies s b = record {
-  ofCertificate = by-split certificate certificate-lawful s b;
-  ofLongRequest = by-split long long-lawful s b;
-  ofShortRequest = by-split short short-lawful s b;
-  ofRequest = of-request s (by-split long long-lawful s b) (by-split short short-lawful s b);
-  ofStatus = by-split status status-lawful s b;
-}
+pub splits-request : (long : Bool) (body : List ℕ) → Bytes body → BySplit (request long) body
+splits-request long = by-split (request long) (request-lawful long)
+
+pub splits-status : (body : List ℕ) → Bytes body → BySplit status body
+splits-status = by-split status status-lawful
+
+-- the two forms one after the other, by the theorem of each
+pub of-request : (body : List ℕ) → Bytes body → OfRequest body
+unfolding certificateRequest
+of-request s b =
+    let l = splits-request true s b in
+    let h = splits-request false s b in
+    record {
+      asLong = λ x y. rw (l .accepts x y);
+      asShort = λ r f x y. rw (l .refuses r f, h .accepts x y);
+      neither = λ r t f g. rw (l .refuses r f, h .refuses t g);
+    }
 
 abbrev certificate-back : Answer TlsCertificateContents → CertificateAnswer
 certificate-back (accepted a) = CertificateAnswer.Got a

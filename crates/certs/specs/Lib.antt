@@ -1,4 +1,1 @@
-pub mod Certificate
-pub mod Request
-pub mod Status
-pub mod Whole
+pub mod Certs

@@ -1,7 +1,7 @@
 // The Certificate (RFC 5246 7.4.2): a chain of certificates.
 ghost use mathlib.Core.Path.{_≡_};
 ghost use lib.ListN.{length};
-ghost use Rattle.certs.specs.Certificate.{certificate, certificateSays};
+ghost use Rattle.certs.specs.Certs.{certificate, certificateSays};
 ghost use Rattle.grammar.specs.Forms.{reading};
 ghost use Rattle.field.specs.Fields.{sized};
 ghost use Rattle.list.specs.Items.{itemFrom, items, place};

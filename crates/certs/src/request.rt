@@ -1,7 +1,8 @@
 // The CertificateRequest (RFC 5246 7.4.4), and the form of TLS 1.0 and 1.1 that has no signature pairs (RFC 4346 7.4.4).
+ghost use mathlib.Core.Bool.{true, false};
 ghost use mathlib.Core.Path.{_≡_};
 ghost use lib.ListN.{length};
-ghost use Rattle.certs.specs.Request.{certificateRequest, long, requestSays, short};
+ghost use Rattle.certs.specs.Certs.{certificateRequest, request, requestSays};
 ghost use Rattle.field.specs.Fields.{Field, sized};
 ghost use Rattle.grammar.specs.Forms.{reading};
 ghost use Rattle.list.specs.Items.{itemFrom, items, numberPlace, place};
@@ -31,7 +32,7 @@ pub enum CertificateRequestAnswer {
 
 // The long form: with signature pairs.
 fn parse_certrequest_full(i: &[u8]) -> CertificateRequestAnswer
-    ensures { λ r. ⌜ requestSays r ≡ reading long (now (i .entry)) ⌝ }
+    ensures { λ r. ⌜ requestSays r ≡ reading (request true) (now (i .entry)) ⌝ }
 {
     let types = match field::length_data(i, 0, Width::One, Kind::Plain) {
         PartAnswer::Refused(r) => {
@@ -65,7 +66,7 @@ fn parse_certrequest_full(i: &[u8]) -> CertificateRequestAnswer
 
 // The short form: without them.
 fn parse_certrequest_nosigalg(i: &[u8]) -> CertificateRequestAnswer
-    ensures { λ r. ⌜ requestSays r ≡ reading short (now (i .entry)) ⌝ }
+    ensures { λ r. ⌜ requestSays r ≡ reading (request false) (now (i .entry)) ⌝ }
 {
     let types = match field::length_data(i, 0, Width::One, Kind::Plain) {
         PartAnswer::Refused(r) => {

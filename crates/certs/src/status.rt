@@ -1,6 +1,6 @@
 // The CertificateStatus (RFC 6066 8).
 ghost use mathlib.Core.Path.{_≡_};
-ghost use Rattle.certs.specs.Status.{status, statusSays};
+ghost use Rattle.certs.specs.Certs.{status, statusSays};
 ghost use Rattle.grammar.specs.Forms.{reading};
 use field::Kind;
 use refusal::Refusal;

@@ -15,7 +15,7 @@ use Rattle.field.specs.Standing.{least}
 use Rattle.list.specs.Items.{itemFrom, items, place}
 use Rattle.list.proofs.Walk.{none-after}
 use Rattle.list.proofs.Fields.{item-none, begins, goes-on}
-use Rattle.chain.specs.Chain.{atFront, pastOr, pastCert, movedOn, readerAfter, certOf, EveryReader}
+use Rattle.chain.specs.Chain.{atFront, certOf, pastOr, movedOn, readerAfter, SameItems}
 use Rattle.chain.specs.declared.TlsCertificateReader.{TlsCertificateReader}
 
 -- a certificate takes a byte at least
@@ -27,8 +27,7 @@ module _ (s : List ℕ) where
   at-first = sym (begins (sized 3) some-bytes s)
 
   -- where one certificate stands at the place k, the next one stands past it
-  at-next : (k at : ℕ) → itemFrom (sized 3) s at ≡ place k (items (sized 3) s) → itemFrom (sized 3) s (pastCert s at) ≡ place (suc k) (items (sized 3) s)
-  unfolding pastCert
+  at-next : (k at : ℕ) → itemFrom (sized 3) s at ≡ place k (items (sized 3) s) → itemFrom (sized 3) s (pastOr at (itemFrom (sized 3) s at)) ≡ place (suc k) (items (sized 3) s)
   at-next k at e = go (itemFrom (sized 3) s at) refl
     where
       go : (a : Answer Part) → itemFrom (sized 3) s at ≡ a → itemFrom (sized 3) s (pastOr at (itemFrom (sized 3) s at)) ≡ place (suc k) (items (sized 3) s)
@@ -49,10 +48,9 @@ module _ (l : RefT (List ℕ)) where
   meets (suc k) = rw (keeps k) (at-next (now l) k (readerAfter k l .at) (rw (keeps k) at (meets k)))
 
 stays : (r : TlsCertificateReader) (x : Refusal) → certOf r ≡ refused x → (x ≡ refusal NoSuch 0 0) × (movedOn r ≡ r)
-unfolding pastCert
 stays r x e = (item-none (sized 3) (now (r .list)) (r .at) e .2, rw e)
 
-pub every-reader : EveryReader
+pub every-reader : (l : RefT (List ℕ)) → SameItems l
 every-reader l = record { meets = meets l; keeps = keeps l; stays = stays }
 
 -- what the first two readers have

@@ -1,9 +1,6 @@
 -- Document 01: "certificate lists also get a reader that holds the lent list and its place". What it hands out, where it moves, and what
 -- is shown of every list by `proofs/Same.antt`: it hands out the items of the list (`list/specs/Items.antt`).
-use Prim.Native.Nat.{ℕ, zero, suc}
-use mathlib.Core.Path.{_≡_}
-use mathlib.Core.List.{List}
-use denote.Ref.{RefT, now}
+use Rattle.refusal.specs.Words.{ℕ, zero, suc, _≡_, List, RefT, now}
 use Rattle.refusal.specs.Answers.{Answer, accepted, refused}
 use Rattle.refusal.specs.Refusals.{refusal}
 use Rattle.refusal.specs.declared.Reason.the-variants.{NoSuch}
@@ -17,26 +14,22 @@ use Rattle.chain.specs.declared.TlsCertificateReader.{TlsCertificateRead
 abbrev pub atFront : RefT (List ℕ) → TlsCertificateReader
 atFront l = record { list = l; at = 0 }
 
--- past what was found, or where it was looked for
+-- the certificate at the reader's place
+abbrev pub certOf : TlsCertificateReader → Answer Part
+certOf r = itemFrom (sized 3) (now (r .list)) (r .at)
+
+-- the place past what was found, or the one where it was looked for
 abbrev pub pastOr : ℕ → Answer Part → ℕ
 pastOr at (accepted p) = p .next
 pastOr at (refused r) = at
 
--- the place past the certificate that begins at a place, or that place where there is none
-unfoldable pub pastCert : List ℕ → ℕ → ℕ
-pastCert s at = pastOr at (itemFrom (sized 3) s at)
-
 abbrev pub movedOn : TlsCertificateReader → TlsCertificateReader
-movedOn r = record { list = r .list; at = pastCert (now (r .list)) (r .at) }
+movedOn r = record { list = r .list; at = pastOr (r .at) (certOf r) }
 
 -- the reader after so many moves
 unfoldable pub readerAfter : ℕ → RefT (List ℕ) → TlsCertificateReader
 readerAfter zero l = atFront l
 readerAfter (suc k) l = movedOn (readerAfter k l)
-
--- the certificate at the reader's place
-abbrev pub certOf : TlsCertificateReader → Answer Part
-certOf r = itemFrom (sized 3) (now (r .list)) (r .at)
 
 pub record SameItems (l : RefT (List ℕ)) : Type 0 where
   -- the reader hands out the items of the list, each at its place, and past the last one NoSuch
@@ -45,6 +38,3 @@ pub record SameItems (l : RefT (List ℕ)) : Type 0 where
   pub keeps : (k : ℕ) → readerAfter k l .list ≡ l
   -- a reader that has no certificate says NoSuch and stays, wherever it stands
   pub stays : (r : TlsCertificateReader) (x : Refusal) → certOf r ≡ refused x → (x ≡ refusal NoSuch 0 0) × (movedOn r ≡ r)
-
-abbrev pub EveryReader : Type 0
-EveryReader = (l : RefT (List ℕ)) → SameItems l

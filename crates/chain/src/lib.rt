@@ -1,7 +1,7 @@
 // The certificates of a chain one after the other, by a reader that holds the lent list and its place. The prover covers no function over
 // such a struct: each is thin, proved by hand, and leaves the work to a function of plain parameters.
 ghost use mathlib.Core.Path.{_≡_};
-ghost use Rattle.chain.specs.Chain.{atFront, certOf, movedOn, pastCert};
+ghost use Rattle.chain.specs.Chain.{atFront, certOf, movedOn, pastOr};
 ghost use Rattle.field.specs.Fields.{sized};
 ghost use Rattle.list.specs.Items.{itemFrom, items, place};
 ghost use Rattle.wire.specs.Parts.{partSays};
@@ -23,7 +23,7 @@ fn cert_in(list: &[u8], at: usize) -> PartAnswer
 
 // The place past it, or `at` where there is none.
 fn past_cert(list: &[u8], at: usize) -> usize
-    ensures { λ r. ⌜ r ≡ pastCert (now (list .entry)) at ⌝ }
+    ensures { λ r. ⌜ r ≡ pastOr at (itemFrom (sized 3) (now (list .entry)) at) ⌝ }
 {
     match cert_in(list, at) {
         PartAnswer::Refused(_) => at,

@@ -8,41 +8,35 @@ use borrow.Author.Tests.{leb-true, leb-false, eqb-true}
 use lib.ListN.{length}
 use lib.Dec.{eqb, leb}
 use Rattle.refusal.specs.Answers.{Answer, accepted, refused, then}
-use Rattle.refusal.specs.Refusals.{refusal}
-use Rattle.refusal.specs.declared.Reason.the-variants.{Incomplete}
+use Rattle.refusal.specs.Refusals.{refusal, unplaced}
+use Rattle.refusal.specs.declared.Reason.the-variants.{Incomplete, Switch}
 use Rattle.refusal.specs.declared.Refusal.{Refusal}
 use Rattle.refusal.proofs.Then.{not-both, then-accepted}
-use Rattle.wire.specs.Parts.{pick}
+use Rattle.wire.specs.Parts.{pick, ifSome}
 use Rattle.wire.specs.Numbers.{be, numberAt}
 use Rattle.wire.specs.declared.view.Part.{Part}
 use Rattle.wire.proofs.Parts.{fits, part-in, part-out}
 use Rattle.wire.proofs.Numbers.{number-got, number-no}
 use Rattle.field.specs.Fields.{fixed, ruleOf, ruled, step}
 use Rattle.field.specs.declared.Kind.the-variants.{Fragment}
-use Rattle.field.proofs.Rules.{ruled-accepted}
+use Rattle.field.proofs.Rules.{ruled-accepted, unless-none}
 use Rattle.grammar.specs.Reading.{fieldsAt, read}
-use Rattle.grammar.specs.Forms.{reading}
-use Rattle.grammar.specs.Versions.{byVersion}
+use Rattle.grammar.specs.Forms.{reading, byVersion}
 use Rattle.client.specs.Client.{client}
-use Rattle.server.specs.Server.{serverVersions}
-use Rattle.server.specs.Draft18.{draft18}
+use Rattle.server.specs.Server.{serverVersions, draft18}
 use Rattle.record.specs.Records.{header, raw}
 use Rattle.record.specs.declared.TlsRawRecord.{TlsRawRecord}
 use Rattle.record.specs.declared.TlsRecordHeader.{TlsRecordHeader}
-use Rattle.certs.specs.Certificate.{certificate}
-use Rattle.certs.specs.Request.{certificateRequest}
-use Rattle.certs.specs.Status.{status}
-use Rattle.body.specs.Retry.{retry}
-use Rattle.body.specs.Ticket.{sessionTicket}
-use Rattle.body.specs.NextProtocol.{nextProtocol}
-use Rattle.hellos.specs.Hellos.{helloRequestMessage, clientMessage, serverMessage, retryMessage}
-use Rattle.bodies.specs.Bodies.{ticketMessage, certificateMessage, requestMessage, statusMessage, nextProtocolMessage, keyUpdateMessage}
+use Rattle.certs.specs.Certs.{certificate, certificateRequest, status}
+use Rattle.body.specs.Body.{retry, sessionTicket, nextProtocol}
+use Rattle.hellos.specs.Hellos.{serverMessage}
 use Rattle.opaque.specs.Whole.{wholeBody}
 use Rattle.message.specs.declared.handshake.TlsMessageHandshake.{TlsMessageHandshake}
 use Rattle.message.specs.declared.handshake.TlsMessageHandshake.the-variants.{HelloRequest, ClientHello, ServerHello, ServerHelloV13Draft18, NewSessionTicket, EndOfEarlyData, HelloRetryRequest, Certificate, ServerKeyExchange, CertificateRequest, ServerDone, CertificateVerify, ClientKeyExchange, Finished, CertificateStatus, NextProtocol, KeyUpdate}
+use Rattle.message.proofs.Lookup.{by-rows}
 use Rattle.message.specs.declared.keyexchange.TlsClientKeyExchangeContents.the-variants.{Unknown}
-use Rattle.envelope.specs.Opening.{opened}
-use Rattle.claims.specs.Crossed.{HeaderAndRecord, typeOf, TellsItsType}
+use Rattle.envelope.specs.Opening.{kinds, opened}
+use Rattle.claims.specs.Crossed.{HeaderAndRecord, typeOf}
 
 module _ (s : List ℕ) where
   number-in : (w at : ℕ) → at + w ≤ length s → numberAt w s at ≡ accepted (record { value = be w s at; next = at + w })
@@ -57,11 +51,11 @@ module _ (s : List ℕ) where
   abbrev behind : Answer Part → Answer TlsRawRecord
   behind a = then a (λ p. accepted (record { hdr = record { «record_type» = be 1 s 0; version = be 2 s 1; len = p .view .len }; «data» = p .view; next = p .next }))
 
-  raw-in : 5 ≤ length s → reading raw s ≡ behind (ruled (ruleOf Fragment) s 5 (be 2 s 3))
+  raw-in : 5 ≤ length s → reading raw s ≡ behind (ruled (ruleOf Fragment) s 3 5 (be 2 s 3))
   unfolding reading read fieldsAt step
-  raw-in h = go (ruled (ruleOf Fragment) s 5 (be 2 s 3)) refl
+  raw-in h = go (ruled (ruleOf Fragment) s 3 5 (be 2 s 3)) refl
     where
-      go : (a : Answer Part) → ruled (ruleOf Fragment) s 5 (be 2 s 3) ≡ a → reading raw s ≡ behind (ruled (ruleOf Fragment) s 5 (be 2 s 3))
+      go : (a : Answer Part) → ruled (ruleOf Fragment) s 3 5 (be 2 s 3) ≡ a → reading raw s ≡ behind (ruled (ruleOf Fragment) s 3 5 (be 2 s 3))
       go (accepted p) e = rw (part-in Incomplete s 0 1 (omega arith), part-in Incomplete s 1 2 (omega arith), number-in 2 3 (omega arith), e)
       go (refused r) e = rw (part-in Incomplete s 0 1 (omega arith), part-in Incomplete s 1 2 (omega arith), number-in 2 3 (omega arith), e)
 
@@ -101,11 +95,11 @@ module _ (s : List ℕ) where
       go : (t : Bool) → leb 5 (length s) ≡ t → (header s ≡ accepted (x .hdr)) × (x .«data» ≡ record { start = 5; len = x .hdr .len }) × (x .next ≡ 5 + x .hdr .len) × (x .hdr .len ≤ 16640)
       go true q =
           let h : 5 ≤ length s = leb-true 5 (length s) q in
-          let t = then-accepted (ruled (ruleOf Fragment) s 5 (be 2 s 3)) _ (sym (raw-in h) ∙ e) in
-          let u = ruled-accepted (ruleOf Fragment) s 5 (be 2 s 3) (t .1) in
+          let t = then-accepted (ruled (ruleOf Fragment) s 3 5 (be 2 s 3)) _ (sym (raw-in h) ∙ e) in
+          let u = ruled-accepted (ruleOf Fragment) s 3 5 (be 2 s 3) (t .1) in
           let p = fits Incomplete s 5 (be 2 s 3) (u .1) .is in
           let d : record { hdr = record { «record_type» = be 1 s 0; version = be 2 s 1; len = t .0 .view .len }; «data» = t .0 .view; next = t .0 .next } ≡ x = cc (t .2) in
-          rw (← d, p) (header-in h, refl, refl, leb-true (be 2 s 3) 16640 (u .0))
+          rw (← d, p) (header-in h, refl, refl, leb-true (be 2 s 3) 16640 (unless-none _ _ (u .0)))
       go false q = absurd (not-both e (both-refused (leb-false 5 (length s) q) .no-record))
 
   refused-alike : (r : Refusal) → header s ≡ refused r → reading raw s ≡ refused r
@@ -137,13 +131,9 @@ made : {A : Type 0} (kind : ℕ) (a : Answer A) (make : A → TlsMessageHandshak
 made kind (accepted x) make t m e = let d : make x ≡ m = cc e in rw (← d) (t x)
 made kind (refused r) make t m e = absurd (not-both e refl)
 
--- a row of the table, and those below it
-row : (kind of : ℕ) {a b : Answer TlsMessageHandshake} → Tells of a → Tells kind b → Tells kind (pick (eqb kind of) a b)
-row kind of {a} {b} f g = go (eqb kind of) refl
-  where
-    go : (t : Bool) → eqb kind of ≡ t → Tells kind (pick t a b)
-    go true q m e = f m e ∙ sym (eqb-true kind of q)
-    go false q m e = g m e
+-- at a type what holds of its row
+at-row : {kind of : ℕ} {a : Answer TlsMessageHandshake} → Tells of a → kind ≡ of → Tells kind a
+at-row f q m e = f m e ∙ sym q
 
 either-hello : (t : Bool) {a b : Answer TlsMessageHandshake} → Tells 0x02 a → Tells 0x02 b → Tells 0x02 (pick t a b)
 either-hello true f g = f
@@ -155,23 +145,56 @@ server-told s m e =
     let t = then-accepted (numberAt 2 s 0) _ e in
     either-hello (eqb (t .0 .value) 0x7f12) (made 0x02 (reading draft18 s) (λ c. ServerHelloV13Draft18 c) (λ c. refl)) (made 0x02 (byVersion serverVersions s) (λ c. ServerHello c) (λ c. refl)) m (t .2)
 
-pub tells-its-type : TellsItsType
-unfolding opened helloRequestMessage clientMessage retryMessage ticketMessage certificateMessage requestMessage statusMessage nextProtocolMessage keyUpdateMessage wholeBody
+pub tells-its-type : (kind n : ℕ) (s : List ℕ) (m : TlsMessageHandshake) → opened kind n s ≡ accepted m → typeOf m ≡ kind
+unfolding opened wholeBody
 tells-its-type kind n s =
-    row kind 0x00 (told 0x00 HelloRequest refl)
-    (row kind 0x01 (made 0x01 (reading client s) (λ c. ClientHello c) (λ c. refl))
-    (row kind 0x02 (server-told s)
-    (row kind 0x04 (made 0x04 (sessionTicket n s) (λ c. NewSessionTicket c) (λ c. refl))
-    (row kind 0x05 (told 0x05 EndOfEarlyData refl)
-    (row kind 0x06 (made 0x06 (reading retry s) (λ c. HelloRetryRequest c) (λ c. refl))
-    (row kind 0x0b (made 0x0b (reading certificate s) (λ c. Certificate c) (λ c. refl))
-    (row kind 0x0c (made 0x0c (step (fixed n) s 0) (λ c. ServerKeyExchange (record { parameters = c .view })) (λ c. refl))
-    (row kind 0x0d (made 0x0d (certificateRequest s) (λ c. CertificateRequest c) (λ c. refl))
-    (row kind 0x0e (made 0x0e (step (fixed n) s 0) (λ c. ServerDone (c .view)) (λ c. refl))
-    (row kind 0x0f (made 0x0f (step (fixed n) s 0) (λ c. CertificateVerify (c .view)) (λ c. refl))
-    (row kind 0x10 (made 0x10 (step (fixed n) s 0) (λ c. ClientKeyExchange (Unknown (c .view))) (λ c. refl))
-    (row kind 0x14 (made 0x14 (step (fixed n) s 0) (λ c. Finished (c .view)) (λ c. refl))
-    (row kind 0x16 (made 0x16 (reading status s) (λ c. CertificateStatus c) (λ c. refl))
-    (row kind 0x18 (made 0x18 (numberAt 1 s 0) (λ c. KeyUpdate (c .value)) (λ c. refl))
-    (row kind 0x43 (made 0x43 (reading nextProtocol s) (λ c. NextProtocol c) (λ c. refl))
-    (none-told kind))))))))))))))))
+    by-rows (λ o. Tells kind (ifSome o (λ a. a) (refused (unplaced Switch)))) kind (kinds n s) (
+      at-row (told 0x00 HelloRequest refl),
+      (
+        at-row (made 0x01 (reading client s) (λ c. ClientHello c) (λ c. refl)),
+        (
+          at-row (server-told s),
+          (
+            at-row (made 0x04 (sessionTicket n s) (λ c. NewSessionTicket c) (λ c. refl)),
+            (
+              at-row (told 0x05 EndOfEarlyData refl),
+              (
+                at-row (made 0x06 (reading retry s) (λ c. HelloRetryRequest c) (λ c. refl)),
+                (
+                  at-row (made 0x0b (reading certificate s) (λ c. Certificate c) (λ c. refl)),
+                  (
+                    at-row (made 0x0c (step (fixed n) s 0) (λ c. ServerKeyExchange (record { parameters = c .view })) (λ c. refl)),
+                    (
+                      at-row (made 0x0d (certificateRequest s) (λ c. CertificateRequest c) (λ c. refl)),
+                      (
+                        at-row (made 0x0e (step (fixed n) s 0) (λ c. ServerDone (c .view)) (λ c. refl)),
+                        (
+                          at-row (made 0x0f (step (fixed n) s 0) (λ c. CertificateVerify (c .view)) (λ c. refl)),
+                          (
+                            at-row (made 0x10 (step (fixed n) s 0) (λ c. ClientKeyExchange (Unknown (c .view))) (λ c. refl)),
+                            (
+                              at-row (made 0x14 (step (fixed n) s 0) (λ c. Finished (c .view)) (λ c. refl)),
+                              (
+                                at-row (made 0x16 (reading status s) (λ c. CertificateStatus c) (λ c. refl)),
+                                (
+                                  at-row (made 0x18 (numberAt 1 s 0) (λ c. KeyUpdate (c .value)) (λ c. refl)),
+                                  (
+                                    at-row (made 0x43 (reading nextProtocol s) (λ c. NextProtocol c) (λ c. refl)),
+                                    tt,
+                                  ),
+                                ),
+                              ),
+                            ),
+                          ),
+                        ),
+                      ),
+                    ),
+                  ),
+                ),
+              ),
+            ),
+          ),
+        ),
+      ),
+    )
+    (none-told kind)

@@ -1,12 +1,6 @@
 -- Everything that is claimed beyond the contracts of single functions: one field for each theorem. `claims::all_claims` promises them all,
 -- so that none can go missing.
-use Prim.Native.Nat.{ℕ, _≤_}
-use mathlib.Core.Path.{_≡_}
-use mathlib.Core.Bool.{Bool}
-use mathlib.Core.List.{List}
-use mathlib.Core.Option.{some}
-use lib.ListN.{getD}
-use denote.Ref.{RefT}
+use Rattle.refusal.specs.Words.{ℕ, _≤_, _≡_, Bool, List, some, getD, RefT}
 use Rattle.refusal.specs.Refusals.{NumbersApart}
 use Rattle.refusal.specs.Answers.{accepted, OneResult}
 use Rattle.wire.specs.Parts.{partOf, partSays}
@@ -16,28 +10,21 @@ use Rattle.wire.specs.declared.view.View.{View}
 use Rattle.field.specs.Fields.{Field, fixed, sized}
 use Rattle.field.specs.Standing.{least}
 use Rattle.grammar.specs.Demand3.{BySplit, ByVersion}
+use Rattle.list.specs.Items.{NoneMore}
 use Rattle.list.specs.Listing.{ByItems}
 use Rattle.hello.specs.Start.{startSays}
 use Rattle.client.specs.Client.{client, clientSays}
 use Rattle.client.specs.declared.TlsClientHelloContents.{TlsClientHelloContents}
-use Rattle.server.specs.Server.{server, serverVersions, serverSays}
-use Rattle.server.specs.Draft18.{draft18, draft18Says}
+use Rattle.server.specs.Server.{server, serverVersions, serverSays, draft18, draft18Says}
 use Rattle.server.specs.declared.tlsv12.TlsServerHelloContents.{TlsServerHelloContents}
 use Rattle.server.specs.declared.tlsv13draft18.TlsServerHelloV13Draft18Contents.{TlsServerHelloV13Draft18Contents}
-use Rattle.certs.specs.Certificate.{certificate, certificateSays}
-use Rattle.certs.specs.Request.{long, short, requestSays}
-use Rattle.certs.specs.Status.{status, statusSays}
-use Rattle.certs.specs.Whole.{OfRequest}
+use Rattle.certs.specs.Certs.{certificate, certificateSays, request, requestSays, status, statusSays, OfRequest}
 use Rattle.chain.specs.Chain.{SameItems}
-use Rattle.body.specs.Retry.{retry, retrySays}
-use Rattle.body.specs.Ticket.{ticketSays}
-use Rattle.body.specs.NextProtocol.{nextProtocol, nextProtocolSays}
-use Rattle.body.specs.Whole.{OfTicket}
+use Rattle.body.specs.Body.{retry, retrySays, ticketSays, nextProtocol, nextProtocolSays, OfTicket}
 use Rattle.message.specs.Messages.{messageSays}
 use Rattle.message.specs.declared.handshake.TlsMessageHandshake.{TlsMessageHandshake}
-use Rattle.hellos.specs.Demand3.{AsMessage}
-use Rattle.envelope.specs.Heads.{headSays}
-use Rattle.envelope.specs.Opening.{opened}
+use Rattle.hellos.specs.Hellos.{AsMessage}
+use Rattle.envelope.specs.Opening.{headSays, opened}
 use Rattle.walk.specs.Walking.{Walking}
 use Rattle.record.specs.Records.{raw, headerSays, rawSays, encryptedSays}
 use Rattle.plaintext.specs.Plaintext.{plaintextSays, openedSays}
@@ -46,9 +33,7 @@ use Rattle.tell.specs.Messages.{messageNumbers}
 use Rattle.hear.specs.Heard.{heard}
 use Rattle.hear.specs.Again.{Holds, again}
 use Rattle.genmessage.specs.Messages.{handshakeText}
-use Rattle.wayback.specs.Hellos.{WritesBack, ReadsAgain}
-use Rattle.wayback.specs.Demand3.{BackByVersion, AgainByVersion, UnlistedAgain, OneText}
-use Rattle.wayback.specs.WayBack.{WayBack}
+use Rattle.wayback.specs.WayBack.{EveryText, WritesBack, ReadsAgain, BackByVersion, AgainByVersion, OneText, WayBack}
 use Rattle.readings.specs.Readings.{rows, ownRows, AllRead}
 use Rattle.readcases.specs.Readers.{Readers, OnlyThese, EachGiven}
 use Rattle.writecases.specs.Writers.{Writers, OnlyTheirs, typeWritten}
@@ -90,7 +75,8 @@ pub record Claims : Type 0 where
   pub readsDraft18 : OfBytes (BySplit draft18)
   pub readsByVersion : OfBytes (ByVersion serverVersions)
   pub readsAsMessage : (s : List ℕ) → AsMessage s
-  -- demand 3, its writing half: what was read, written back, with at most so many bytes before the tail
+  -- any text, written; demand 3, its writing half: what was read, written back, with at most so many bytes before the tail
+  pub everyText : EveryText
   pub writesClient : OfBytes (WritesBack client 0x01 131396)
   pub writesServer : (hasExt : Bool) → OfBytes (WritesBack (server hasExt) 0x02 65607)
   pub writesDraft18 : OfBytes (WritesBack draft18 0x02 65573)
@@ -100,18 +86,17 @@ pub record Claims : Type 0 where
   pub againClient : OfBytes (λ s. (c : TlsClientHelloContents) → ReadsAgain client s c)
   pub againServer : (hasExt : Bool) → OfBytes (λ s. (c : TlsServerHelloContents) → ReadsAgain (server hasExt) s c)
   pub againDraft18 : OfBytes (λ s. (c : TlsServerHelloV13Draft18Contents) → ReadsAgain draft18 s c)
-  pub againByVersion : OfBytes AgainByVersion
-  pub againUnlisted : OfBytes UnlistedAgain
-  -- lists: of every element, and those that are handed out: names, certificates, methods and types, ciphers and signature pairs
+  pub againByVersion : AgainByVersion
+  -- lists: of every element, which the bound never ends, and those that are handed out: names, certificates, methods and types, ciphers and signature pairs
   pub lists : (f : Field) → 1 ≤ least f → OfBytes (ByItems f)
+  pub noneMore : NoneMore
   pub names : OfBytes (ByItems (sized 2))
   pub certificates : OfBytes (ByItems (sized 3))
   pub methods : OfBytes (ByItems (fixed 1))
   pub ciphers : OfBytes (ByItems (fixed 2))
   -- the other bodies that hold fields, by their grammars; which form a CertificateRequest is read by; the ticket by its length
   pub splitsCertificate : OfBytes (BySplit certificate)
-  pub splitsLong : OfBytes (BySplit long)
-  pub splitsShort : OfBytes (BySplit short)
+  pub splitsRequest : (long : Bool) → OfBytes (BySplit (request long))
   pub chooses : OfBytes OfRequest
   pub splitsStatus : OfBytes (BySplit status)
   pub splitsRetry : OfBytes (BySplit retry)

@@ -1,10 +1,6 @@
 -- Rules said a second time over definitions that stand apart, so that a slip in one of them is refused by a proof even where the code has
 -- it too. Shown by `proofs/Crossed.antt`.
-use Prim.Native.Nat.{ℕ, _+_, _≤_}
-use mathlib.Core.Path.{_≡_}
-use mathlib.Core.List.{List}
-use lib.ListN.{getD}
-use lib.Dec.{eqb}
+use Rattle.refusal.specs.Words.{ℕ, _+_, _≤_, _≡_, List, getD, eqb}
 use Rattle.refusal.specs.Answers.{accepted, refused}
 use Rattle.refusal.specs.declared.Refusal.{Refusal}
 use Rattle.wire.specs.Parts.{pick}
@@ -31,7 +27,3 @@ typeTold n = pick (eqb n 0x7f12) 0x02 n
 
 abbrev pub typeOf : TlsMessageHandshake → ℕ
 typeOf m = typeTold (getD (messageNumbers m) 0 0)
-
--- a body that is opened by a type tells of that type, whatever the type, the length and the body
-abbrev pub TellsItsType : Type 0
-TellsItsType = (kind n : ℕ) (s : List ℕ) (m : TlsMessageHandshake) → opened kind n s ≡ accepted m → typeOf m ≡ kind

@@ -1,13 +1,10 @@
 -- The ClientHello: document 01, "The grammar of the three hellos"; RFC 5246 7.4.1.2.
-use Prim.Native.Nat.{ℕ}
-use mathlib.Core.List.{List}
-use lib.ListN.{length}
-use lib.Dec.{eqb, leb}
+use Rattle.refusal.specs.Words.{ℕ, List, length, eqb, leb}
 use Rattle.refusal.specs.Answers.{Answer, accepted, refused}
 use Rattle.wire.specs.Parts.{pick}
 use Rattle.wire.specs.Numbers.{be}
 use Rattle.grammar.specs.Hellos.{clientHello}
-use Rattle.grammar.specs.Forms.{Form, asNumber, asView, asPart}
+use Rattle.grammar.specs.Forms.{Form}
 use Rattle.client.specs.declared.TlsClientHelloContents.{TlsClientHelloContents}
 use Rattle.client.specs.declared.ClientHelloAnswer.{ClientHelloAnswer}
 use Rattle.client.specs.declared.ClientHelloAnswer.the-variants.{Refused, Got}
@@ -15,7 +12,6 @@ use Rattle.client.specs.declared.ClientHelloAnswer.the-variants.{Refused
 abbrev pub client : Form TlsClientHelloContents
 client = record {
   grammar = clientHello;
-  how = (asNumber 2, (asView, (asPart, (asView, (asView, tt)))));
   value = λ (v, (r, (id, (cs, (ms, _))))) e t. record { version = v; random = r; «session_id» = id; ciphers = cs; comp = ms; ext = e; tail = t };
   handed = λ c. (c .version, (c .random, (c .«session_id», (c .ciphers, (c .comp, tt)))));
   block = λ c. c .ext;

@@ -2,7 +2,7 @@
 use mathlib.Core.Path.{_≡_, refl}
 use Rattle.refusal.specs.Answers.{Answer, accepted, refused, OneResult}
 use Rattle.refusal.proofs.Told.{tells-all}
-use Rattle.envelope.specs.Heads.{headSays}
+use Rattle.envelope.specs.Opening.{headSays}
 use Rattle.envelope.specs.declared.TlsMessageHead.{TlsMessageHead}
 use Rattle.envelope.specs.declared.HeadAnswer.{HeadAnswer}
 use Rattle.envelope.specs.declared.HeadAnswer.the-variants.{Refused, Got}

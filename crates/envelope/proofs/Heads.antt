@@ -1,24 +1,44 @@
 -- What head and body say of the message that begins at a place; and where a message that was met lies: its body behind four bytes, and both
 -- within the bytes. Assumes nothing.
 use Prim.Native.Nat.{ℕ, _+_, _≤_}
-use mathlib.Core.Path.{_≡_}
+use mathlib.Core.Path.{_≡_, refl}
 use mathlib.Core.List.{List}
+use mathlib.Core.Option.{Option, none, some}
 use native.Mathlib.Omega.{arith}
 use lib.ListN.{length}
-use Rattle.refusal.specs.Answers.{accepted, refused, then, within}
-use Rattle.refusal.specs.Refusals.{inside}
+use Rattle.refusal.specs.Answers.{Answer, accepted, refused, within, giving}
+use Rattle.refusal.specs.Refusals.{refusal, unplaced, inside}
+use Rattle.refusal.specs.declared.Reason.the-variants.{Switch}
 use Rattle.refusal.specs.declared.Refusal.{Refusal}
-use Rattle.refusal.proofs.Then.{then-accepted, within-accepted}
+use Rattle.refusal.proofs.Then.{not-both, then-accepted}
+use Rattle.refusal.proofs.Told.{unplaced-inside}
 use Rattle.wire.specs.Numbers.{numberAt}
-use Rattle.wire.specs.Parts.{partOf}
+use Rattle.wire.specs.Parts.{partOf, lookup, ifSome}
 use Rattle.wire.proofs.Numbers.{number-is}
 use Rattle.field.specs.Fields.{ruleOf, step, sized}
 use Rattle.field.specs.declared.Kind.the-variants.{Plain}
 use Rattle.field.proofs.Rules.{counted-lies}
 use Rattle.message.specs.declared.handshake.TlsMessageHandshake.{TlsMessageHandshake}
-use Rattle.envelope.specs.Heads.{headAt}
-use Rattle.envelope.specs.Opening.{Met, metAt, byType}
+use Rattle.envelope.specs.Opening.{headAt, Met, kinds, opened, byType, byTypeIn, metAt}
 use Rattle.envelope.specs.declared.TlsMessageHead.{TlsMessageHead}
+
+-- a body's answer in its message, by that of the body alone
+module _ (at start k : ℕ) (s : List ℕ) where
+  pub in-got : {m : TlsMessageHandshake} → byType k s ≡ accepted m → byTypeIn at start k s ≡ accepted m
+  unfolding byType opened byTypeIn
+  in-got {m} e = go (lookup k (kinds (length s) s)) e
+    where
+      go : (o : Option (Answer TlsMessageHandshake)) → ifSome o (λ a. a) (refused (unplaced Switch)) ≡ accepted m → ifSome o (within start) (refused (refusal Switch at 0)) ≡ accepted m
+      go none d = absurd (not-both d refl)
+      go (some a) d = rw d
+
+  in-refused : {r : Refusal} → byType k s ≡ refused r → byTypeIn at start k s ≡ refused (inside start r)
+  unfolding byType opened byTypeIn
+  in-refused {r} e = go (lookup k (kinds (length s) s)) e
+    where
+      go : (o : Option (Answer TlsMessageHandshake)) → ifSome o (λ a. a) (refused (unplaced Switch)) ≡ refused r → ifSome o (within start) (refused (refusal Switch at 0)) ≡ refused (inside start r)
+      go none d = let y : unplaced Switch ≡ r = cc in rw (← (unplaced-inside Switch at 0 start), y)
+      go (some a) d = rw d
 
 module _ (s : List ℕ) (at : ℕ) where
   pub met-no-head : {r : Refusal} → headAt s at ≡ refused r → metAt s at ≡ refused r
@@ -27,11 +47,11 @@ module _ (s : List ℕ) (at : ℕ) where
 
   pub met-no-body : {h : TlsMessageHead} {r : Refusal} → headAt s at ≡ accepted h → byType (h .kind) (partOf s (h .body)) ≡ refused r → metAt s at ≡ refused (inside (h .body .start) r)
   unfolding metAt
-  met-no-body e d = rw (e, d)
+  met-no-body {h} e d = rw (e, in-refused at (h .body .start) (h .kind) (partOf s (h .body)) d)
 
   pub met-got : {h : TlsMessageHead} {m : TlsMessageHandshake} → headAt s at ≡ accepted h → byType (h .kind) (partOf s (h .body)) ≡ accepted m → metAt s at ≡ accepted (record { head = h; says = m })
   unfolding metAt
-  met-got e d = rw (e, d)
+  met-got {h} e d = rw (e, in-got at (h .body .start) (h .kind) (partOf s (h .body)) d)
 
 pub record Lies (s : List ℕ) (at : ℕ) (h : TlsMessageHead) : Type 0 where
   pub start : h .body .start ≡ at + 4
@@ -41,7 +61,7 @@ pub record Lies (s : List ℕ) (at : ℕ) (h : TlsMessageHead) : Type 0 where
 pub head-lies : (s : List ℕ) (at : ℕ) {h : TlsMessageHead} → headAt s at ≡ accepted h → Lies s at h
 unfolding headAt
 head-lies s at {h} e =
-    let t = then-accepted (numberAt 1 s at) (λ k. then (step (sized 3) s (k .next)) (λ b. accepted (record { kind = k .value; body = b .view; next = b .next }))) e in
+    let t = then-accepted (numberAt 1 s at) (λ k. giving (λ b. record { kind = k .value; body = b .view; next = b .next }) (step (sized 3) s (k .next))) e in
     let n = number-is 1 s at (t .1) in
     let u = then-accepted (step (sized 3) s (t .0 .next)) (λ b. accepted (record { kind = t .0 .value; body = b .view; next = b .next })) (t .2) in
     let i = counted-lies 3 (ruleOf Plain) s (t .0 .next) (u .1) in
@@ -52,8 +72,8 @@ head-lies s at {h} e =
 pub met-head : (s : List ℕ) (at : ℕ) {x : Met} → metAt s at ≡ accepted x → headAt s at ≡ accepted (x .head)
 unfolding metAt
 met-head s at {x} e =
-    let t = then-accepted (headAt s at) (λ h. within (h .body .start) (then (byType (h .kind) (partOf s (h .body))) (λ m. accepted (record { head = h; says = m })))) e in
-    let u = then-accepted (byType (t .0 .kind) (partOf s (t .0 .body))) (λ (m : TlsMessageHandshake). accepted (record { head = t .0; says = m })) (within-accepted (t .0 .body .start) _ (t .2)) in
+    let t = then-accepted (headAt s at) (λ h. giving (λ m. record { head = h; says = m }) (byTypeIn at (h .body .start) (h .kind) (partOf s (h .body)))) e in
+    let u = then-accepted (byTypeIn at (t .0 .body .start) (t .0 .kind) (partOf s (t .0 .body))) (λ (m : TlsMessageHandshake). accepted (record { head = t .0; says = m })) (t .2) in
     let d : record { head = t .0; says = u .0 } ≡ x = cc (u .2) in
     rw (← d) (t .1)
 

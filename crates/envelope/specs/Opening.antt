@@ -1,45 +1,66 @@
--- What a message's type opens, and the message: document 01, "The other handshake bodies". "Length and body are taken before the type is
--- looked at."
-use Prim.Native.Nat.{ℕ}
-use mathlib.Core.List.{List}
-use lib.ListN.{length}
-use lib.Dec.{eqb}
-use Rattle.refusal.specs.Answers.{Answer, accepted, refused, then, within}
-use Rattle.refusal.specs.Refusals.{refusal}
-use Rattle.refusal.specs.declared.Reason.the-variants.{Switch}
-use Rattle.wire.specs.Parts.{pick, partOf}
-use Rattle.hellos.specs.Hellos.{helloRequestMessage, clientMessage, serverMessage, retryMessage}
-use Rattle.bodies.specs.Bodies.{ticketMessage, certificateMessage, requestMessage, statusMessage, nextProtocolMessage, keyUpdateMessage}
-use Rattle.opaque.specs.Whole.{serverKeyExchangeMessage, serverDoneMessage, certificateVerifyMessage, clientKeyExchangeMessage, finishedMessage}
-use Rattle.message.specs.declared.handshake.TlsMessageHandshake.{TlsMessageHandshake}
-use Rattle.message.specs.declared.handshake.TlsMessageHandshake.the-variants.{EndOfEarlyData}
+-- The head of a message, what its type opens, and the message: document 01, "The other handshake bodies"; RFC 5246 7.4. "Length and body are
+-- taken before the type is looked at."
+use Rattle.refusal.specs.Words.{ℕ, List, [], _∷_, length}
+use Rattle.refusal.specs.Answers.{Answer, accepted, refused, then, giving, within}
+use Rattle.wire.specs.Numbers.{numberAt}
+use Rattle.field.specs.Fields.{step, sized}
 use Rattle.envelope.specs.declared.TlsMessageHead.{TlsMessageHead}
-use Rattle.envelope.specs.Heads.{headAt}
+use Rattle.envelope.specs.declared.HeadAnswer.{HeadAnswer}
+use Rattle.envelope.specs.declared.HeadAnswer.the-variants.{Refused, Got}
+use Rattle.refusal.specs.Refusals.{refusal, unplaced}
+use Rattle.refusal.specs.declared.Reason.the-variants.{Switch}
+use Rattle.wire.specs.Parts.{partOf, lookup, ifSome}
+use Rattle.grammar.specs.Forms.{reading}
+use Rattle.client.specs.Client.{client}
+use Rattle.certs.specs.Certs.{certificate, certificateRequest, status}
+use Rattle.body.specs.Body.{retry, sessionTicket, nextProtocol}
+use Rattle.message.specs.declared.keyexchange.TlsClientKeyExchangeContents.the-variants.{Unknown}
+use Rattle.message.specs.declared.handshake.TlsMessageHandshake.{TlsMessageHandshake}
+use Rattle.message.specs.declared.handshake.TlsMessageHandshake.the-variants.{HelloRequest, ClientHello, NewSessionTicket, EndOfEarlyData, HelloRetryRequest, Certificate, ServerKeyExchange, CertificateRequest, ServerDone, CertificateVerify, ClientKeyExchange, Finished, CertificateStatus, NextProtocol, KeyUpdate}
+use Rattle.hellos.specs.Hellos.{serverMessage}
+use Rattle.opaque.specs.Whole.{wholeBody}
 
--- the body of a message of a type, n its length where that is handed over; "All others, 0x03, 0x08 and 0x15 among them: Switch"
+-- "A message is type 1, length 3, body": the head of the one that begins at a place
+unfoldable pub headAt : List ℕ → ℕ → Answer TlsMessageHead
+headAt s at = then (numberAt 1 s at) (λ t. giving (λ b. record { kind = t .value; body = b .view; next = b .next }) (step (sized 3) s (t .next)))
+
+-- as an `Answer`, which has the paper's number and the values
+abbrev pub headSays : HeadAnswer → Answer TlsMessageHead
+headSays (Refused r) = refused r
+headSays (Got h) = accepted h
+
+-- "The type decides": what a body is opened as by each type that is listed, n its length where that is handed over
+abbrev pub kinds : ℕ → List ℕ → List (ℕ × Answer TlsMessageHandshake)
+kinds n s =
+    (0x00, accepted HelloRequest)
+    ∷ (0x01, giving (λ c. ClientHello c) (reading client s))
+    ∷ (0x02, serverMessage s)
+    ∷ (0x04, giving (λ c. NewSessionTicket c) (sessionTicket n s))
+    ∷ (0x05, accepted EndOfEarlyData)
+    ∷ (0x06, giving (λ c. HelloRetryRequest c) (reading retry s))
+    ∷ (0x0b, giving (λ c. Certificate c) (reading certificate s))
+    ∷ (0x0c, wholeBody (λ v. ServerKeyExchange (record { parameters = v })) n s)
+    ∷ (0x0d, giving (λ c. CertificateRequest c) (certificateRequest s))
+    ∷ (0x0e, wholeBody (λ v. ServerDone v) n s)
+    ∷ (0x0f, wholeBody (λ v. CertificateVerify v) n s)
+    ∷ (0x10, wholeBody (λ v. ClientKeyExchange (Unknown v)) n s)
+    ∷ (0x14, wholeBody (λ v. Finished v) n s)
+    ∷ (0x16, giving (λ c. CertificateStatus c) (reading status s))
+    ∷ (0x18, giving (λ u. KeyUpdate (u .value)) (numberAt 1 s 0))
+    ∷ (0x43, giving (λ c. NextProtocol c) (reading nextProtocol s))
+    ∷ []
+
+-- the body of a message of a type; "All others, 0x03, 0x08 and 0x15 among them: Switch"
 unfoldable pub opened : ℕ → ℕ → List ℕ → Answer TlsMessageHandshake
-opened k n s =
-    pick (eqb k 0x00) (helloRequestMessage s)
-    (pick (eqb k 0x01) (clientMessage s)
-    (pick (eqb k 0x02) (serverMessage s)
-    (pick (eqb k 0x04) (ticketMessage n s)
-    (pick (eqb k 0x05) (accepted EndOfEarlyData)
-    (pick (eqb k 0x06) (retryMessage s)
-    (pick (eqb k 0x0b) (certificateMessage s)
-    (pick (eqb k 0x0c) (serverKeyExchangeMessage n s)
-    (pick (eqb k 0x0d) (requestMessage s)
-    (pick (eqb k 0x0e) (serverDoneMessage n s)
-    (pick (eqb k 0x0f) (certificateVerifyMessage n s)
-    (pick (eqb k 0x10) (clientKeyExchangeMessage n s)
-    (pick (eqb k 0x14) (finishedMessage n s)
-    (pick (eqb k 0x16) (statusMessage s)
-    (pick (eqb k 0x18) (keyUpdateMessage s)
-    (pick (eqb k 0x43) (nextProtocolMessage s)
-    (refused (refusal Switch 0 0)))))))))))))))))
+opened k n s = ifSome (lookup k (kinds n s)) (λ a. a) (refused (unplaced Switch))
 
--- the body of a message of a type
+-- the whole body of a message of a type
 unfoldable pub byType : ℕ → List ℕ → Answer TlsMessageHandshake
 byType k s = opened k (length s) s
+
+-- the same in a message whose type stands at a place, the body beginning at another: Switch is given where the type stands
+unfoldable pub byTypeIn : ℕ → ℕ → ℕ → List ℕ → Answer TlsMessageHandshake
+byTypeIn at start k s = ifSome (lookup k (kinds (length s) s)) (within start) (refused (refusal Switch at 0))
 
 -- a message that was met: its head, and what it says
 pub record Met : Type 0 where
@@ -48,8 +69,8 @@ pub record Met : Type 0 where
 
 -- the message that begins at a place: what its type opens its body as
 unfoldable pub metAt : List ℕ → ℕ → Answer Met
-metAt s at = then (headAt s at) (λ h. within (h .body .start) (then (byType (h .kind) (partOf s (h .body))) (λ m. accepted (record { head = h; says = m }))))
+metAt s at = then (headAt s at) (λ h. giving (λ m. record { head = h; says = m }) (byTypeIn at (h .body .start) (h .kind) (partOf s (h .body))))
 
 -- the message at the front
 unfoldable pub message : List ℕ → Answer TlsMessageHandshake
-message s = then (metAt s 0) (λ x. accepted (x .says))
+message s = giving (λ x. x .says) (metAt s 0)

@@ -1,7 +1,6 @@
 // A handshake message: its head, what its type opens, and both.
 ghost use mathlib.Core.Path.{_≡_};
-ghost use Rattle.envelope.specs.Heads.{headAt, headSays};
-ghost use Rattle.envelope.specs.Opening.{byType, message, opened};
+ghost use Rattle.envelope.specs.Opening.{headAt, headSays, byType, message, opened};
 ghost use Rattle.message.specs.Messages.{messageSays};
 use field::Kind;
 use message::handshake::MessageAnswer;
@@ -71,7 +70,7 @@ pub fn parse_tls_handshake_msg(kind: u8, i: &[u8], len: usize) -> MessageAnswer
         0x18 => bodies::parse_tls_handshake_msg_key_update(i),
         0x43 => bodies::parse_tls_handshake_msg_next_protocol(i),
         0x03 | 0x07..=0x0a | 0x11..=0x13 | 0x15 | 0x17 | 0x19..=0x42 | 0x44..=0xff =>
-            MessageAnswer::Refused(refusal::refuse(Reason::Switch, 0, 0)),
+            MessageAnswer::Refused(refusal::unplaced(Reason::Switch)),
     }
 }
 

@@ -3,53 +3,87 @@ use Prim.Native.Nat.{ℕ, _+_, _≤_}
 use mathlib.Core.Path.{_≡_, refl, ap, sym, _∙_}
 use mathlib.Core.Logic.{_⊎_, inl, inr}
 use mathlib.Core.Bool.{Bool, true, false}
+use mathlib.Core.Option.{Option, none, some}
 use mathlib.Core.List.{List}
 use native.Mathlib.Omega.{arith}
 use lib.ListN.{length}
-use Rattle.refusal.specs.Answers.{accepted, refused}
-use Rattle.refusal.specs.Refusals.{refusal}
+use Rattle.refusal.specs.Answers.{Answer, accepted, refused}
 use Rattle.refusal.specs.declared.Reason.the-variants.{Incomplete}
 use Rattle.refusal.specs.declared.Refusal.{Refusal}
 use Rattle.refusal.proofs.Then.{not-both, then-accepted}
 use Rattle.wire.specs.Numbers.{be, numberAt}
-use Rattle.wire.specs.Parts.{partAt}
+use Rattle.wire.specs.Parts.{ifSome, partAt}
 use Rattle.wire.specs.declared.view.Part.{Part}
 use Rattle.wire.specs.declared.number.Number.{Number}
 use Rattle.wire.proofs.Parts.{found, fits, part-in, part-out}
 use Rattle.wire.proofs.Numbers.{number-is, number-short}
-use Rattle.field.specs.Fields.{Field, fixed, counted, Rule, ruled, step}
+use Rattle.field.specs.Fields.{Field, fixed, counted, Rule, unless, ruled, step}
 use Rattle.field.specs.Standing.{least}
+use Rattle.field.specs.Texts.{allows}
 
-pub ruled-accepted : (r : Rule) (s : List ℕ) (at n : ℕ) {q : Part} → ruled r s at n ≡ accepted q → (r .allows n ≡ true) × (partAt (r .past) s at n ≡ accepted q)
-unfolding ruled
-ruled-accepted r s at n {q} e = go (r .allows n) refl
+-- a length is allowed just where it gets no refusal
+pub allows-none : (r : Rule) (n : ℕ) → allows r n ≡ true → r .broken n ≡ none
+allows-none r n e = go (r .broken n) e
   where
-    go : (t : Bool) → r .allows n ≡ t → (r .allows n ≡ true) × (partAt (r .past) s at n ≡ accepted q)
-    go true a = (a, rw a at e)
-    go false a = absurd (not-both (rw a at e) refl)
+    go : (o : Option (ℕ → ℕ → Refusal)) → ifSome o (λ x. false) true ≡ true → o ≡ none
+    go none e = refl
+    go (some x) e = let z : _≡_ {A = ℕ} 0 1 = cc in absurd (omega arith)
 
-pub ruled-refused : (r : Rule) (s : List ℕ) (at n : ℕ) {x : Refusal} → ruled r s at n ≡ refused x
-    → ((r .allows n ≡ false) × (x ≡ refusal (r .broken) at 0)) ⊎ ((r .allows n ≡ true) × (partAt (r .past) s at n ≡ refused x))
+pub none-allows : (r : Rule) (n : ℕ) → r .broken n ≡ none → allows r n ≡ true
+none-allows r n e = rw e
+
+-- the test of a rule, by the refusal
+pub unless-is : {A : Type 0} (t : Bool) (a : A) → ifSome (unless t a) (λ x. false) true ≡ t
+unless-is true a = refl
+unless-is false a = refl
+
+pub unless-none : {A : Type 0} (t : Bool) (a : A) → unless t a ≡ none → t ≡ true
+unless-none true a e = refl
+unless-none false a e = let z : _≡_ {A = ℕ} 0 1 = cc in absurd (omega arith)
+
+-- a length that fails the test gets its refusal
+pub unless-fails : (t : Bool) (x : ℕ → ℕ → Refusal) (at next : ℕ) (p : Answer Part) {y : Refusal} → y ≡ x at next
+    → ifSome (unless t x) (λ x. false) true ≡ false → ifSome (unless t x) (λ x. refused (x at next)) p ≡ refused y
+unless-fails true x at next p q e = let z : _≡_ {A = ℕ} 0 1 = cc in absurd (omega arith)
+unless-fails false x at next p q e = ap refused (sym q)
+
+pub ruled-in : (r : Rule) (s : List ℕ) (at next n : ℕ) → r .broken n ≡ none → ruled r s at next n ≡ partAt (r .past) s next n
 unfolding ruled
-ruled-refused r s at n {x} e = go (r .allows n) refl
+ruled-in r s at next n e = rw e
+
+pub ruled-out : (r : Rule) (s : List ℕ) (at next n : ℕ) (x : ℕ → ℕ → Refusal) → r .broken n ≡ some x → ruled r s at next n ≡ refused (x at next)
+unfolding ruled
+ruled-out r s at next n x e = rw e
+
+pub ruled-accepted : (r : Rule) (s : List ℕ) (at next n : ℕ) {q : Part} → ruled r s at next n ≡ accepted q → (r .broken n ≡ none) × (partAt (r .past) s next n ≡ accepted q)
+ruled-accepted r s at next n {q} e = go (r .broken n) refl
   where
-    go : (t : Bool) → r .allows n ≡ t → ((r .allows n ≡ false) × (x ≡ refusal (r .broken) at 0)) ⊎ ((r .allows n ≡ true) × (partAt (r .past) s at n ≡ refused x))
-    go true a = inr (a, rw a at e)
-    go false a = inl (a, let d = rw a at e in cc)
+    go : (o : Option (ℕ → ℕ → Refusal)) → r .broken n ≡ o → (r .broken n ≡ none) × (partAt (r .past) s next n ≡ accepted q)
+    go none a = (a, sym (ruled-in r s at next n a) ∙ e)
+    go (some x) a = absurd (not-both e (ruled-out r s at next n x a))
+
+pub ruled-refused : (r : Rule) (s : List ℕ) (at next n : ℕ) {y : Refusal} → ruled r s at next n ≡ refused y
+    → ((x : ℕ → ℕ → Refusal) × (r .broken n ≡ some x) × (y ≡ x at next)) ⊎ ((r .broken n ≡ none) × (partAt (r .past) s next n ≡ refused y))
+ruled-refused r s at next n {y} e = go (r .broken n) refl
+  where
+    go : (o : Option (ℕ → ℕ → Refusal)) → r .broken n ≡ o
+        → ((x : ℕ → ℕ → Refusal) × (r .broken n ≡ some x) × (y ≡ x at next)) ⊎ ((r .broken n ≡ none) × (partAt (r .past) s next n ≡ refused y))
+    go none a = inr (a, sym (ruled-in r s at next n a) ∙ e)
+    go (some x) a = inl (x, a, let d : _≡_ {A = Answer Part} (refused (x at next)) (refused y) = sym (ruled-out r s at next n x a) ∙ e in cc)
 
 -- where the part of a counted field lies, and that its length is allowed
 pub record Lies (w : ℕ) (r : Rule) (s : List ℕ) (at : ℕ) (p : Part) : Type 0 where
   pub start : p .view .start ≡ at + w
   pub next : p .next ≡ at + w + p .view .len
   pub inside : p .next ≤ length s
-  pub allowed : r .allows (p .view .len) ≡ true
+  pub allowed : r .broken (p .view .len) ≡ none
 
 pub counted-lies : (w : ℕ) (r : Rule) (s : List ℕ) (at : ℕ) {p : Part} → step (counted w r) s at ≡ accepted p → Lies w r s at p
 unfolding step
 counted-lies w r s at e =
-    let t = then-accepted (numberAt w s at) (λ l. ruled r s (l .next) (l .value)) e in
+    let t = then-accepted (numberAt w s at) (λ l. ruled r s at (l .next) (l .value)) e in
     let n = number-is w s at (t .1) in
-    let u = ruled-accepted r s (at + w) (be w s at) (rw (n .is) at (t .2)) in
+    let u = ruled-accepted r s at (at + w) (be w s at) (rw (n .is) at (t .2)) in
     let g = fits (r .past) s (at + w) (be w s at) (u .1) in
     rw (g .is) (record { start = refl; next = refl; inside = g .inside; allowed = u .0 })
 

@@ -3,7 +3,7 @@
 use Prim.Native.Nat.{ℕ, _+_, _-_, _^_, _<_, _≤_}
 use mathlib.Core.Path.{_≡_, refl, ap, ap₂, sym, _∙_}
 use mathlib.Core.Logic.{_⊎_, inl, inr}
-use mathlib.Core.Bool.{true, false}
+use mathlib.Core.Option.{none, some}
 use mathlib.Core.List.{List, _++_, append-assoc}
 use native.Mathlib.Omega.{arith}
 use borrow.Author.Tests.{le-leb}
@@ -22,7 +22,7 @@ use Rattle.wire.specs.declared.number.Number.{Number}
 use Rattle.wire.proofs.Parts.{part-in, part-out, fits, short, Short}
 use Rattle.wire.proofs.Numbers.{length-bytes, be-drop, be-of, be-lt, of-be, number-got, number-no, number-is, number-short}
 use Rattle.refusal.proofs.Then.{then-accepted, then-refused}
-use Rattle.field.proofs.Rules.{ruled-accepted, ruled-refused}
+use Rattle.field.proofs.Rules.{ruled-in, ruled-out, ruled-accepted, ruled-refused}
 use Rattle.field.specs.Fields.{Field, fixed, counted, Rule, step, ruled}
 use Rattle.field.specs.Standing.{fieldBytes, Obeys, TooFew, BadPart, Lacks, placeOf, viewOf}
 
@@ -42,7 +42,7 @@ length-counted w r p = simp (length-append, length-bytes)
 
 -- a step finds the part whose bytes stand there
 pub step-of : (f : Field) (s : List ℕ) (at : ℕ) (p rest : List ℕ) → at ≤ length s → Obeys f p → drop at s ≡ fieldBytes f p ++ rest → step f s at ≡ accepted (placed f at p)
-unfolding step ruled
+unfolding step
 step-of (fixed n) s at p rest h o e =
     let l : length s ≡ at + (length p + length rest) = left-length s at _ h e ∙ ap (λ (k : ℕ). at + k) (length-append p rest) in
     rw (← o) (part-in Incomplete s at (length p) (omega arith))
@@ -51,7 +51,7 @@ step-of (counted w r) s at p rest h o e =
     let n : be w s at ≡ length p = be-drop w s at ∙ rw (e, append-assoc) (be-of w (length p) (p ++ rest) (o .0)) in
     let a = number-got w s at (part-in Incomplete s at w (omega arith)) in
     let z : at + w + length p ≡ at + length (fieldBytes (counted w r) p) = rw (length-counted w r p) (omega arith) in
-    rw (a, n, o .1, ← z) (part-in (r .past) s (at + w) (length p) (omega arith))
+    rw (a, n, ruled-in r s at (at + w) (length p) (o .1), ← z) (part-in (r .past) s (at + w) (length p) (omega arith))
 
 -- and what is left then is what stood behind it
 pub left-of : (f : Field) (s : List ℕ) (at : ℕ) (p rest : List ℕ) → drop at s ≡ fieldBytes f p ++ rest → drop (at + length (fieldBytes f p)) s ≡ rest
@@ -106,7 +106,7 @@ found-at f s at b n e h o m d =
     record { obeys = o; bytes = d; place = ap₂ (λ (x : View) (k : ℕ). record { view = x; next = k }) v m; inside = h }
 
 -- a part that stands behind its length
-counted-at : (w : ℕ) (r : Rule) (s : List ℕ) (at : ℕ) → Bytes s → at + w + be w s at ≤ length s → r .allows (be w s at) ≡ true
+counted-at : (w : ℕ) (r : Rule) (s : List ℕ) (at : ℕ) → Bytes s → at + w + be w s at ≤ length s → r .broken (be w s at) ≡ none
     → Found (counted w r) s at (record { view = view (at + w) (be w s at); next = at + w + be w s at })
 counted-at w r s at b h a =
     let p = partOf s (view (at + w) (be w s at)) in
@@ -122,9 +122,9 @@ step-back (fixed n) s at b e =
     let l = length-part s at n (g .inside) in
     rw (g .is) (found-at (fixed n) s at at n refl (g .inside) l (rw l) (part-drop s at n (g .inside)))
 step-back (counted w r) s at b e =
-    let t = then-accepted (numberAt w s at) (λ l. ruled r s (l .next) (l .value)) e in
+    let t = then-accepted (numberAt w s at) (λ l. ruled r s at (l .next) (l .value)) e in
     let n = number-is w s at (t .1) in
-    let u = ruled-accepted r s (at + w) (be w s at) (rw (n .is) at (t .2)) in
+    let u = ruled-accepted r s at (at + w) (be w s at) (rw (n .is) at (t .2)) in
     let g = fits (r .past) s (at + w) (be w s at) (u .1) in
     rw (g .is) (counted-at w r s at b (g .inside) (u .0))
 
@@ -139,35 +139,35 @@ lack-of : (s : List ℕ) (at n : ℕ) → n - (length s - at) ≡ n - length (dr
 lack-of s at n = rw length-drop
 
 pub step-lacks : (f : Field) (s : List ℕ) (at : ℕ) (r : Refusal) → at ≤ length s → Lacks f at (drop at s) r → step f s at ≡ refused r
-unfolding step ruled
+unfolding step
 step-lacks (fixed n) s at r h (l, e) = rw (e, ← lack-of s at n) (part-out Incomplete s at n (omega (arith, length-drop at s)))
 step-lacks (counted w k) s at r h (inl (l, e)) = rw (e, ← lack-of s at w, number-no w s at (part-out Incomplete s at w (omega (arith, length-drop at s))))
-step-lacks (counted w k) s at r h (inr (n, rest, l, d, inl (q, e))) =
+step-lacks (counted w k) s at r h (inr (n, rest, l, d, inl (x, q, e))) =
     let z = len-at w n s at rest h l d in
-    rw (number-got w s at (part-in Incomplete s at w (omega arith)), z .0, q, e)
+    rw (number-got w s at (part-in Incomplete s at w (omega arith)), z .0, e) (ruled-out k s at (at + w) n x q)
 step-lacks (counted w k) s at r h (inr (n, rest, l, d, inr (q, (j, e)))) =
     let z = len-at w n s at rest h l d in
     let m : length rest ≡ length s - (at + w) = omega arith in
-    rw (number-got w s at (part-in Incomplete s at w (omega arith)), z .0, q, e, m) (part-out (k .past) s (at + w) n (omega arith))
+    rw (number-got w s at (part-in Incomplete s at w (omega arith)), z .0, ruled-in k s at (at + w) n q, e, m) (part-out (k .past) s (at + w) n (omega arith))
 
 too-few : (why : Reason) (s : List ℕ) (at n : ℕ) {r : Refusal} → at ≤ length s → Short why s at n r → TooFew why n at (drop at s) r
 too-few why s at n h g = (rw length-drop (omega (arith, g .outside)), g .is ∙ ap (refusal _ _) (lack-of s at n))
 
 -- a step that finds nothing: the bytes lack the field
-lacks-ruled : (w : ℕ) (k : Rule) (s : List ℕ) (at : ℕ) (r : Refusal) → Bytes s → at + w ≤ length s → ruled k s (at + w) (be w s at) ≡ refused r → Lacks (counted w k) at (drop at s) r
-lacks-ruled w k s at r b h e = inr (be w s at, drop (at + w) s, be-lt w s at b, front w s at b h, go (ruled-refused k s (at + w) (be w s at) e))
+lacks-ruled : (w : ℕ) (k : Rule) (s : List ℕ) (at : ℕ) (r : Refusal) → Bytes s → at + w ≤ length s → ruled k s at (at + w) (be w s at) ≡ refused r → Lacks (counted w k) at (drop at s) r
+lacks-ruled w k s at r b h e = inr (be w s at, drop (at + w) s, be-lt w s at b, front w s at b h, go (ruled-refused k s at (at + w) (be w s at) e))
   where
-    go : ((k .allows (be w s at) ≡ false) × (r ≡ refusal (k .broken) (at + w) 0)) ⊎ ((k .allows (be w s at) ≡ true) × (partAt (k .past) s (at + w) (be w s at) ≡ refused r))
-        → BadPart k (be w s at) (at + w) (drop (at + w) s) r
+    go : ((x : ℕ → ℕ → Refusal) × (k .broken (be w s at) ≡ some x) × (r ≡ x at (at + w))) ⊎ ((k .broken (be w s at) ≡ none) × (partAt (k .past) s (at + w) (be w s at) ≡ refused r))
+        → BadPart k (be w s at) at (at + w) (drop (at + w) s) r
     go (inl x) = inl x
     go (inr (a, q)) = inr (a, too-few (k .past) s (at + w) (be w s at) h (short (k .past) s (at + w) (be w s at) q))
 
 pub lacks-back : (f : Field) (s : List ℕ) (at : ℕ) (r : Refusal) → Bytes s → at ≤ length s → step f s at ≡ refused r → Lacks f at (drop at s) r
 unfolding step
 lacks-back (fixed n) s at r b h e = too-few Incomplete s at n h (short Incomplete s at n e)
-lacks-back (counted w k) s at r b h e = go (then-refused (numberAt w s at) (λ l. ruled k s (l .next) (l .value)) e)
+lacks-back (counted w k) s at r b h e = go (then-refused (numberAt w s at) (λ l. ruled k s at (l .next) (l .value)) e)
   where
-    go : (numberAt w s at ≡ refused r) ⊎ ((l : Number) × (numberAt w s at ≡ accepted l) × (ruled k s (l .next) (l .value) ≡ refused r)) → Lacks (counted w k) at (drop at s) r
+    go : (numberAt w s at ≡ refused r) ⊎ ((l : Number) × (numberAt w s at ≡ accepted l) × (ruled k s at (l .next) (l .value) ≡ refused r)) → Lacks (counted w k) at (drop at s) r
     go (inl q) = inl (too-few Incomplete s at w h (number-short w s at q))
     go (inr (l, q, x)) =
         let n = number-is w s at q in

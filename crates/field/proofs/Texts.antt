@@ -8,18 +8,17 @@ use native.Mathlib.Nat.{pow-le-pow-right}
 use borrow.Author.Tests.{eqb-true, ltb-true, eq-eqb, lt-ltb}
 use lib.ListN.{length}
 use Rattle.refusal.specs.Answers.{accepted, refused}
-use Rattle.refusal.specs.Refusals.{refusal}
-use Rattle.refusal.specs.declared.Reason.the-variants.{NoRoom}
+use Rattle.refusal.specs.Refusals.{unplaced}
 use Rattle.refusal.specs.declared.Refusal.{Refusal}
-use Rattle.wire.specs.Parts.{partAt}
 use Rattle.wire.specs.Numbers.{bytesOf, numberText}
-use Rattle.wire.specs.Puts.{put, written}
+use Rattle.wire.specs.Puts.{put, roomAt, written}
 use Rattle.wire.specs.declared.view.Part.{Part}
-use Rattle.wire.proofs.Parts.{fits}
+use Rattle.wire.proofs.Parts.{room-fits}
 use Rattle.wire.proofs.Numbers.{length-bytes}
 use Rattle.wire.proofs.Puts.{Came, text-refused, text-in, text-out, written-in, number-accepted, length-put, put-put}
 use Rattle.field.specs.Fields.{Field, fixed, counted, Rule}
 use Rattle.field.specs.Standing.{fieldBytes, Obeys}
+use Rattle.field.proofs.Rules.{allows-none, none-allows}
 use Rattle.field.proofs.Steps.{length-counted}
 use Rattle.field.specs.Texts.{both, allowed, unfit, fieldText}
 
@@ -30,17 +29,17 @@ both-true false b e = let z : _≡_ {A = ℕ} 0 1 = cc in absurd (omega arith)
 -- a part may stand in a field exactly where it is one of it
 pub obeys : (f : Field) (p : List ℕ) → allowed f (length p) ≡ true → Obeys f p
 obeys (fixed n) p e = eqb-true _ _ e
-obeys (counted w r) p e = let b = both-true _ _ e in (ltb-true _ _ (b .0), b .1)
+obeys (counted w r) p e = let b = both-true _ _ e in (ltb-true _ _ (b .0), allows-none r (length p) (b .1))
 
 pub obeyed : (f : Field) (p : List ℕ) → Obeys f p → allowed f (length p) ≡ true
 obeyed (fixed n) p o = eq-eqb _ _ o
-obeyed (counted w r) p o = rw (lt-ltb _ _ (o .0)) (o .1)
+obeyed (counted w r) p o = rw (lt-ltb _ _ (o .0)) (none-allows r (length p) (o .1))
 
 pub text-may : (f : Field) (p : List ℕ) → allowed f (length p) ≡ true → fieldText f p ≡ accepted (fieldBytes f p)
 unfolding fieldText
 text-may f p e = rw e
 
-pub text-not : (f : Field) (p : List ℕ) → allowed f (length p) ≡ false → fieldText f p ≡ refused (refusal (unfit f) 0 0)
+pub text-not : (f : Field) (p : List ℕ) → allowed f (length p) ≡ false → fieldText f p ≡ refused (unplaced (unfit f))
 unfolding fieldText
 text-not f p e = rw e
 
@@ -53,16 +52,16 @@ below w r n h e = omega (arith, ltb-true n (256 ^ w) (both-true _ _ e .0), pow-l
 
 -- writing a counted part: of a length that is not allowed, without room, and put in, its length first
 module _ (w : ℕ) (r : Rule) (p : List ℕ) (at : ℕ) (d : List ℕ) where
-  pub counted-not : allowed (counted w r) (length p) ≡ false → Came (fieldText (counted w r) p) at d (refused (refusal (r .unfit) 0 0)) d
+  pub counted-not : allowed (counted w r) (length p) ≡ false → Came (fieldText (counted w r) p) at d (refused (unplaced (r .unfit))) d
   counted-not e = text-refused at d (text-not (counted w r) p e)
 
-  pub counted-out : {x : Refusal} → allowed (counted w r) (length p) ≡ true → partAt NoRoom d at (w + length p) ≡ refused x → Came (fieldText (counted w r) p) at d (refused x) d
+  pub counted-out : {x : Refusal} → allowed (counted w r) (length p) ≡ true → roomAt d at (w + length p) ≡ refused x → Came (fieldText (counted w r) p) at d (refused x) d
   counted-out {x} e q = text-out (fieldBytes (counted w r) p) at d {r = x} (text-may (counted w r) p e) (rw (length-counted w r p) q)
 
-  pub counted-in : {x : Part} (o o′ : List ℕ) → allowed (counted w r) (length p) ≡ true → partAt NoRoom d at (w + length p) ≡ accepted x
+  pub counted-in : {x : Part} (o o′ : List ℕ) → allowed (counted w r) (length p) ≡ true → roomAt d at (w + length p) ≡ accepted x
       → o ≡ written (numberText w (length p)) at d → o′ ≡ written (accepted p) (at + w) o → Came (fieldText (counted w r) p) at d (accepted (x .next)) o′
   counted-in {x} o o′ e q e₁ e₂ =
-      let h = fits NoRoom d at (w + length p) q .inside in
+      let h = room-fits d at (w + length p) q .inside in
       let l = length-bytes w (length p) in
       let n : o ≡ put d at (bytesOf w (length p)) =
       e₁ ∙ written-in (bytesOf w (length p)) at d (number-accepted w (length p) (obeys (counted w r) p e .0)) (rw l (omega arith)) in

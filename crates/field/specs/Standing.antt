@@ -1,11 +1,6 @@
 -- A field in the bytes, with no reader in it: what its bytes are, which parts it may have, where the part lies, and what it is for the
 -- bytes to lack it. RFC 5246 4.3.
-use Prim.Native.Nat.{ℕ, _+_, _-_, _^_, _<_}
-use mathlib.Core.Path.{_≡_}
-use mathlib.Core.Logic.{_⊎_}
-use mathlib.Core.List.{List, _++_}
-use mathlib.Core.Bool.{true, false}
-use lib.ListN.{length}
+use Rattle.refusal.specs.Words.{ℕ, _+_, _-_, _^_, _<_, _≡_, _⊎_, List, _++_, none, some, length}
 use Rattle.refusal.specs.Refusals.{refusal}
 use Rattle.refusal.specs.declared.Reason.{Reason}
 use Rattle.refusal.specs.declared.Reason.the-variants.{Incomplete}
@@ -19,10 +14,10 @@ abbrev pub fieldBytes : Field → List ℕ → List ℕ
 fieldBytes (fixed n) p = p
 fieldBytes (counted w r) p = bytesOf w (length p) ++ p
 
--- the part is one of the field: of the fixed length, or of a length that w bytes can hold and the rule allows
+-- the part is one of the field: of the fixed length, or of one that w bytes can hold and that gets no refusal
 abbrev pub Obeys : Field → List ℕ → Type 0
 Obeys (fixed n) p = length p ≡ n
-Obeys (counted w r) p = (length p < 256 ^ w) × (r .allows (length p) ≡ true)
+Obeys (counted w r) p = (length p < 256 ^ w) × (r .broken (length p) ≡ none)
 
 -- the bytes that a field takes at least
 abbrev pub least : Field → ℕ
@@ -45,9 +40,11 @@ NoneAt f b = (p rest : List ℕ) → Obeys f p → b ≡ fieldBytes f p ++ rest 
 abbrev pub TooFew : Reason → ℕ → ℕ → List ℕ → Refusal → Type 0
 TooFew why n at b r = (length b < n) × (r ≡ refusal why at (n - length b))
 
--- the length n is not allowed, or too few bytes follow it
-abbrev pub BadPart : Rule → ℕ → ℕ → List ℕ → Refusal → Type 0
-BadPart k n at b r = ((k .allows n ≡ false) × (r ≡ refusal (k .broken) at 0)) ⊎ ((k .allows n ≡ true) × TooFew (k .past) n at b r)
+-- the length n gets a refusal, or it gets none and too few bytes follow it
+abbrev pub BadPart : Rule → ℕ → ℕ → ℕ → List ℕ → Refusal → Type 0
+BadPart k n at behind b r =
+    ((no : ℕ → ℕ → Refusal) × (k .broken n ≡ some no) × (r ≡ no at behind))
+    ⊎ ((k .broken n ≡ none) × TooFew (k .past) n behind b r)
 
 -- the bytes left at a place lack the field, and this is the refusal set for it: they are too few for the part, or for its length, or the
 -- length that stands there has no part
@@ -55,4 +52,4 @@ abbrev pub Lacks : Field → ℕ → List ℕ → Refusal → Type 0
 Lacks (fixed n) at b r = TooFew Incomplete n at b r
 Lacks (counted w k) at b r =
     TooFew Incomplete w at b r
-    ⊎ ((n : ℕ) × (rest : List ℕ) × (n < 256 ^ w) × (b ≡ bytesOf w n ++ rest) × BadPart k n (at + w) rest r)
+    ⊎ ((n : ℕ) × (rest : List ℕ) × (n < 256 ^ w) × (b ≡ bytesOf w n ++ rest) × BadPart k n at (at + w) rest r)

@@ -1,25 +1,23 @@
 -- A field written: document 01, "What may be written". Its bytes are those that a reader splits off, `fieldBytes`.
-use Prim.Native.Nat.{ℕ, _^_}
-use mathlib.Core.List.{List}
-use mathlib.Core.Bool.{Bool, false}
-use lib.ListN.{length}
-use lib.Dec.{ltb, eqb}
+use Rattle.refusal.specs.Words.{ℕ, _^_, List, Bool, true, false, length, ltb, eqb}
 use Rattle.refusal.specs.Answers.{Answer, accepted, refused}
-use Rattle.refusal.specs.Refusals.{refusal}
+use Rattle.refusal.specs.Refusals.{unplaced}
 use Rattle.refusal.specs.declared.Reason.{Reason}
 use Rattle.refusal.specs.declared.Reason.the-variants.{BadLength}
-use Rattle.wire.specs.Parts.{pick}
-use Rattle.field.specs.Fields.{Field, fixed, counted}
+use Rattle.wire.specs.Parts.{pick, ifSome}
+use Rattle.field.specs.Fields.{Field, fixed, counted, Rule}
 use Rattle.field.specs.Standing.{fieldBytes}
 
 abbrev pub both : Bool → Bool → Bool
 both a b = pick a b false
 
--- `Obeys` as a test of the length: a part of n bytes may stand in the field, n being its length, or one that w bytes can hold and the rule
--- allows
+abbrev pub allows : Rule → ℕ → Bool
+allows r n = ifSome (r .broken n) (λ no. false) true
+
+-- `Obeys` as a test of the length
 abbrev pub allowed : Field → ℕ → Bool
 allowed (fixed k) n = eqb n k
-allowed (counted w r) n = both (ltb n (256 ^ w)) (r .allows n)
+allowed (counted w r) n = both (ltb n (256 ^ w)) (allows r n)
 
 -- the refusal to write another
 abbrev pub unfit : Field → Reason
@@ -28,4 +26,4 @@ unfit (counted w r) = r .unfit
 
 -- the field's bytes for a part, where it may stand there
 unfoldable pub fieldText : Field → List ℕ → Answer (List ℕ)
-fieldText f p = pick (allowed f (length p)) (accepted (fieldBytes f p)) (refused (refusal (unfit f) 0 0))
+fieldText f p = pick (allowed f (length p)) (accepted (fieldBytes f p)) (refused (unplaced (unfit f)))

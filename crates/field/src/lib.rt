@@ -1,11 +1,16 @@
 // A fixed part, and a part behind its length by the rule of what it is, read and written.
 ghost use mathlib.Core.Path.{_≡_};
+ghost use mathlib.Core.Bool.{false};
+ghost use mathlib.Core.List.{List};
+ghost use Prim.Native.Nat.{ℕ};
+ghost use Rattle.refusal.specs.Answers.{Answer};
 ghost use Rattle.wire.specs.Numbers.{bytesIn};
 ghost use Rattle.wire.specs.Parts.{partSays};
 ghost use Rattle.wire.specs.Puts.{room, written, writeSays};
-ghost use Rattle.field.specs.Fields.{Field, step, ruleOf};
-ghost use Rattle.field.specs.Texts.{allowed, fieldText};
+ghost use Rattle.field.specs.Fields.{Field, ruleOf, ruled, step};
+ghost use Rattle.field.specs.Texts.{allows, allowed, fieldText};
 use refusal::Reason;
+use refusal::Refusal;
 use wire::number::NumberAnswer;
 use wire::number::Width;
 use wire::output::WriteAnswer;
@@ -28,7 +33,7 @@ pub fn take(s: &[u8], at: usize, n: usize) -> PartAnswer
 }
 
 fn allows(kind: Kind, n: usize) -> bool
-    ensures { λ r. ⌜ r ≡ ruleOf kind .allows n ⌝ }
+    ensures { λ r. ⌜ r ≡ allows (ruleOf kind) n ⌝ }
 {
     match kind {
         Kind::Plain => true,
@@ -39,16 +44,16 @@ fn allows(kind: Kind, n: usize) -> bool
     }
 }
 
-// The refusal of a length that the kind does not allow.
-fn broken(kind: Kind) -> Reason
-    ensures { λ r. ⌜ r ≡ ruleOf kind .broken ⌝ }
+// The refusal of a length that the kind does not allow: the length stands at `at`, its bytes begin at `next`.
+fn broken(kind: Kind, at: usize, next: usize) -> Refusal
+    ensures { λ r. ⌜ ((s : List ℕ) (n : ℕ) → allows (ruleOf kind) n ≡ false → ruled (ruleOf kind) s at next n ≡ Answer.refused r) ⌝ }
 {
     match kind {
-        Kind::Plain => Reason::Incomplete,
-        Kind::SessionId => Reason::Verify,
-        Kind::Ciphers => Reason::LengthValue,
-        Kind::Methods => Reason::LengthValue,
-        Kind::Fragment => Reason::TooLarge,
+        Kind::Plain => refusal::refuse(Reason::Incomplete, next, 0),
+        Kind::SessionId => refusal::refuse(Reason::Verify, at, 0),
+        Kind::Ciphers => refusal::refuse(Reason::LengthValue, next, 0),
+        Kind::Methods => refusal::refuse(Reason::LengthValue, next, 0),
+        Kind::Fragment => refusal::refuse(Reason::TooLarge, at, 0),
     }
 }
 
@@ -78,7 +83,7 @@ pub fn length_data(s: &[u8], at: usize, w: Width, kind: Kind) -> PartAnswer
     if allows(kind, n.value) {
         wire::view::take_or(s, n.next, n.value, past(kind))
     } else {
-        PartAnswer::Refused(refusal::refuse(broken(kind), n.next, 0))
+        PartAnswer::Refused(broken(kind, at, n.next))
     }
 }
 
@@ -114,7 +119,7 @@ pub fn gen_length_data(out: &mut [u8], at: usize, w: Width, kind: Kind, part: &[
     let n = part.len();
     if may_follow(w, kind, n) {
         let count = wire::number::width_bytes(w);
-        match wire::view::take_or(out, at, count + n, Reason::NoRoom) {
+        match wire::output::room_for(out, at, count + n) {
             PartAnswer::Refused(r) => WriteAnswer::Refused(r),
             PartAnswer::Got(p) => {
                 wire::number::gen_be(out, at, w, n);
@@ -123,6 +128,6 @@ pub fn gen_length_data(out: &mut [u8], at: usize, w: Width, kind: Kind, part: &[
             }
         }
     } else {
-        WriteAnswer::Refused(refusal::refuse(unfit(kind), 0, 0))
+        WriteAnswer::Refused(refusal::unplaced(unfit(kind)))
     }
 }

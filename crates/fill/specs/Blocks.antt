@@ -1,26 +1,24 @@
 -- Lists told in blocks: the items from a place on, as many as there is room for, each as so many numbers.
-use Prim.Native.Nat.{ℕ, _/_}
-use mathlib.Core.List.{List, [], _∷_, map, flatMap}
-use lib.ListN.{length, take, drop}
+use Rattle.refusal.specs.Words.{ℕ, _/_, List, [], _∷_, map, flatMap, length, take, drop}
 use Rattle.wire.specs.Numbers.{be}
 use Rattle.wire.specs.declared.view.Part.{Part}
 use Rattle.field.specs.Fields.{Field, step, sized}
 use Rattle.list.specs.Items.{items, itemsFrom}
-use Rattle.envelope.specs.Opening.{Met, metAt}
+use Rattle.envelope.specs.Opening.{Met}
+use Rattle.walk.specs.Walks.{messagesFrom}
 
 -- as many items as there is room for, k numbers each
 abbrev pub block : {A : Type 0} → ℕ → (A → List ℕ) → ℕ → List A → List ℕ
 block k f room xs = flatMap f (take (room / k) xs)
 
--- numbers of two bytes, from the place `from` on, one each
+-- the numbers of two bytes from the place `from` on
 abbrev pub numberBlock : ℕ → List ℕ → ℕ → List ℕ
 numberBlock room s from = take room (drop from (map (λ (p : Part). be 2 s (p .view .start)) (items (Field.fixed 2) s)))
 
--- the items that begin at a byte, two numbers each
+-- the items behind a length of w bytes, from the byte `from` on: where each begins and how long it is
 abbrev pub itemBlock : ℕ → ℕ → List ℕ → ℕ → List ℕ
 itemBlock room w s from = block 2 (λ (p : Part). p .view .start ∷ p .view .len ∷ []) room (itemsFrom (length s) (step (sized w) s) (λ p. p .next) from)
 
--- the messages that begin at a byte, three numbers each
+-- the messages from the byte `from` on: the type of each, where its body begins and how long it is
 abbrev pub messageBlock : ℕ → List ℕ → ℕ → List ℕ
-messageBlock room s from =
-    block 3 (λ (x : Met). x .head .kind ∷ x .head .body .start ∷ x .head .body .len ∷ []) room (itemsFrom (length s) (metAt s) (λ x. x .head .next) from)
+messageBlock room s from = block 3 (λ (x : Met). x .head .kind ∷ x .head .body .start ∷ x .head .body .len ∷ []) room (messagesFrom s from)

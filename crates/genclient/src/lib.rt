@@ -5,7 +5,7 @@ ghost use Prim.Native.Nat.{_≤_};
 ghost use lib.ListN.{length};
 ghost use Rattle.client.specs.Client.{client};
 ghost use Rattle.text.specs.Hellos.{helloBytes, helloText, mayWrite};
-ghost use Rattle.text.specs.Messages.{messageText};
+ghost use Rattle.text.specs.Messages.{headText, messageText};
 ghost use Rattle.wire.specs.Puts.{put, room, written, writeSays};
 use client::TlsClientHelloContents;
 use field::Kind;
@@ -70,14 +70,14 @@ fn put_fields(m: TlsClientHelloContents, i: &[u8], out: &mut [u8])
 
 // Writes the message: BadLength, then NoRoom. A refusal changes no byte.
 pub fn gen_tls_clienthello(m: TlsClientHelloContents, i: &[u8], out: &mut [u8]) -> WriteAnswer
-    ensures { λ r. ⌜ writeSays r ≡ room (messageText 0x01 (helloText client (now (i .entry)) m)) 0 (now (out .entry)) ⌝ }
-    ensures { λ _. ⌜ now (out .exit) ≡ written (messageText 0x01 (helloText client (now (i .entry)) m)) 0 (now (out .entry)) ⌝ }
+    ensures { λ r. ⌜ writeSays r ≡ room (messageText (headText 0x01) (helloText client (now (i .entry)) m)) 0 (now (out .entry)) ⌝ }
+    ensures { λ _. ⌜ now (out .exit) ≡ written (messageText (headText 0x01) (helloText client (now (i .entry)) m)) 0 (now (out .entry)) ⌝ }
 {
     if !writable(m, i) {
-        return WriteAnswer::Refused(refusal::refuse(Reason::BadLength, 0, 0));
+        return WriteAnswer::Refused(refusal::unplaced(Reason::BadLength));
     }
     let n = fields_len(m, i);
-    match wire::view::take_or(out, 0, 4 + n, Reason::NoRoom) {
+    match wire::output::room_for(out, 0, 4 + n) {
         PartAnswer::Refused(r) => WriteAnswer::Refused(r),
         PartAnswer::Got(p) => {
             put_fields(m, i, &mut out[4..]);

@@ -11,7 +11,7 @@ use Rattle.wire.specs.Numbers.{numberText}
 use Rattle.wire.specs.Puts.{put, written}
 use Rattle.field.specs.Texts.{fieldText}
 use Rattle.grammar.specs.Hellos.{random, extensions}
-use Rattle.server.specs.Draft18.{draft18}
+use Rattle.server.specs.Server.{draft18}
 use Rattle.server.specs.declared.tlsv13draft18.TlsServerHelloV13Draft18Contents.{TlsServerHelloV13Draft18Contents}
 use Rattle.text.specs.Hellos.{helloBytes}
 use Rattle.text.proofs.Hellos.{Obeyed}
@@ -27,7 +27,7 @@ pub draft18-put : (d s : List ℕ) (m : TlsServerHelloV13Draft18Contents) (o₁ 
 unfolding helloBytes
 draft18-put d s m o₁ o₂ o₃ o₄ h f v c e₁ e₂ e₃ e₄ =
     let a = begin d (helloBytes draft18 s m) f in
-    let a₁ = number 2 _ _ _ 2 (m .version) a v e₁ (omega arith) in
-    let a₂ = and 34 _ _ _ random (partOf s (m .random)) a₁ {t = accepted (partOf s (m .random))} refl e₂ (omega (arith, h .fields .1 .0)) in
-    let a₃ = number 36 _ _ _ 2 (m .cipher) a₂ c e₃ (omega arith) in
+    let a₁ = number 2 _ 2 (m .version) a v e₁ (omega arith) in
+    let a₂ = and 34 _ (random .0) (partOf s (m .random)) a₁ {t = accepted (partOf s (m .random))} refl e₂ (omega (arith, h .fields .1 .0)) in
+    let a₃ = number 36 _ 2 (m .cipher) a₂ c e₃ (omega arith) in
     close extensions (optPartOf s (m .ext)) a₃ (h .last) e₄

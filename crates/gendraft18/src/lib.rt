@@ -3,9 +3,9 @@ ghost use mathlib.Core.Bool.{true};
 ghost use mathlib.Core.Path.{_≡_};
 ghost use Prim.Native.Nat.{_≤_};
 ghost use lib.ListN.{length};
-ghost use Rattle.server.specs.Draft18.{draft18};
+ghost use Rattle.server.specs.Server.{draft18};
 ghost use Rattle.text.specs.Hellos.{helloBytes, helloText, mayWrite};
-ghost use Rattle.text.specs.Messages.{messageText};
+ghost use Rattle.text.specs.Messages.{headText, messageText};
 ghost use Rattle.wire.specs.Puts.{put, room, written, writeSays};
 use field::Kind;
 use refusal::Reason;
@@ -53,14 +53,14 @@ pub fn gen_tls_serverhellodraft18(
     i: &[u8],
     out: &mut [u8],
 ) -> WriteAnswer
-    ensures { λ r. ⌜ writeSays r ≡ room (messageText 0x02 (helloText draft18 (now (i .entry)) m)) 0 (now (out .entry)) ⌝ }
-    ensures { λ _. ⌜ now (out .exit) ≡ written (messageText 0x02 (helloText draft18 (now (i .entry)) m)) 0 (now (out .entry)) ⌝ }
+    ensures { λ r. ⌜ writeSays r ≡ room (messageText (headText 0x02) (helloText draft18 (now (i .entry)) m)) 0 (now (out .entry)) ⌝ }
+    ensures { λ _. ⌜ now (out .exit) ≡ written (messageText (headText 0x02) (helloText draft18 (now (i .entry)) m)) 0 (now (out .entry)) ⌝ }
 {
     if !writable(m, i) {
-        return WriteAnswer::Refused(refusal::refuse(Reason::BadLength, 0, 0));
+        return WriteAnswer::Refused(refusal::unplaced(Reason::BadLength));
     }
     let n = fields_len(m, i);
-    match wire::view::take_or(out, 0, 4 + n, Reason::NoRoom) {
+    match wire::output::room_for(out, 0, 4 + n) {
         PartAnswer::Refused(r) => WriteAnswer::Refused(r),
         PartAnswer::Got(p) => {
             put_fields(m, i, &mut out[4..]);

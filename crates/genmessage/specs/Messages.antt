@@ -1,30 +1,27 @@
 -- A handshake message, written: each kind of document 01's list by its type, and "NotYetImplemented: writing any handshake kind not named
 -- above"; RFC 5246 7.4.
-use Prim.Native.Nat.{ℕ}
-use mathlib.Core.List.{List, []}
-use mathlib.Core.Bool.{true}
+use Rattle.refusal.specs.Words.{ℕ, List, [], true}
 use Rattle.refusal.specs.Answers.{Answer, accepted, refused}
-use Rattle.refusal.specs.Refusals.{refusal}
+use Rattle.refusal.specs.Refusals.{unplaced}
 use Rattle.refusal.specs.declared.Reason.the-variants.{NotYetImplemented}
 use Rattle.client.specs.Client.{client}
-use Rattle.server.specs.Server.{server}
-use Rattle.server.specs.Draft18.{draft18}
+use Rattle.server.specs.Server.{server, draft18}
 use Rattle.message.specs.declared.handshake.TlsMessageHandshake.{TlsMessageHandshake}
 use Rattle.message.specs.declared.handshake.TlsMessageHandshake.the-variants.{HelloRequest, ClientHello, ServerHello, ServerHelloV13Draft18, NewSessionTicket, EndOfEarlyData, HelloRetryRequest, Certificate, ServerKeyExchange, CertificateRequest, ServerDone, CertificateVerify, ClientKeyExchange, Finished, CertificateStatus, NextProtocol, KeyUpdate}
 use Rattle.text.specs.Hellos.{helloText}
-use Rattle.text.specs.Messages.{messageText, viewText}
+use Rattle.text.specs.Messages.{headText, messageText, viewText}
 use Rattle.genpart.specs.Exchange.{exchangeText}
 
 abbrev pub notWritten : Answer (List ℕ)
-notWritten = refused (refusal NotYetImplemented 0 0)
+notWritten = refused (unplaced NotYetImplemented)
 
 unfoldable pub handshakeText : List ℕ → TlsMessageHandshake → Answer (List ℕ)
-handshakeText s HelloRequest = messageText 0x00 (accepted [])
-handshakeText s (ClientHello c) = messageText 0x01 (helloText client s c)
-handshakeText s (ServerHello c) = messageText 0x02 (helloText (server true) s c)
-handshakeText s (ServerHelloV13Draft18 c) = messageText 0x02 (helloText draft18 s c)
-handshakeText s (ClientKeyExchange k) = messageText 0x10 (exchangeText s k)
-handshakeText s (Finished v) = messageText 0x14 (viewText s v)
+handshakeText s HelloRequest = messageText (headText 0x00) (accepted [])
+handshakeText s (ClientHello c) = messageText (headText 0x01) (helloText client s c)
+handshakeText s (ServerHello c) = messageText (headText 0x02) (helloText (server true) s c)
+handshakeText s (ServerHelloV13Draft18 c) = messageText (headText 0x02) (helloText draft18 s c)
+handshakeText s (ClientKeyExchange k) = messageText (headText 0x10) (exchangeText s k)
+handshakeText s (Finished v) = messageText (headText 0x14) (viewText s v)
 handshakeText s (NewSessionTicket c) = notWritten
 handshakeText s EndOfEarlyData = notWritten
 handshakeText s (HelloRetryRequest c) = notWritten

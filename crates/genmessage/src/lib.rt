@@ -20,6 +20,6 @@ pub fn gen_tls_messagehandshake(m: TlsMessageHandshake, i: &[u8], out: &mut [u8]
         }
         TlsMessageHandshake::ClientKeyExchange(k) => genpart::gen_tls_clientkeyexchange(k, i, out),
         TlsMessageHandshake::Finished(v) => genpart::gen_tls_finished(v, i, out),
-        _ => WriteAnswer::Refused(refusal::refuse(Reason::NotYetImplemented, 0, 0)),
+        _ => WriteAnswer::Refused(refusal::unplaced(Reason::NotYetImplemented)),
     }
 }

@@ -9,7 +9,7 @@ use native.Mathlib.Nat.{pow-le-pow-right}
 use borrow.Author.Tests.{ltb-true, not-true, not-false}
 use lib.ListN.{length}
 use Rattle.refusal.specs.Answers.{Answer, accepted, refused, then}
-use Rattle.refusal.specs.Refusals.{refusal}
+use Rattle.refusal.specs.Refusals.{unplaced}
 use Rattle.refusal.specs.declared.Reason.the-variants.{BadLength}
 use Rattle.refusal.specs.declared.Refusal.{Refusal}
 use Rattle.wire.specs.Parts.{pick, partOf}
@@ -22,42 +22,43 @@ use Rattle.field.specs.Standing.{fieldBytes}
 use Rattle.field.specs.Texts.{both, allowed, fieldText}
 use Rattle.field.proofs.Steps.{length-counted}
 use Rattle.field.proofs.Texts.{both-true, text-may, text-not}
-use Rattle.grammar.specs.Forms.{asView}
+use Rattle.grammar.specs.Grammars.{asView}
 use Rattle.text.specs.Hellos.{inside, mayStand}
 use Rattle.text.specs.Messages.{headText, messageText, viewText, sizedText}
-use Rattle.text.proofs.Messages.{Body, head-is, message-is, message-refused}
+use Rattle.text.proofs.Messages.{Message, headBytes, head-is, message-is, message-refused, same-text, short-head}
 
 -- a message with an empty body is its head
-pub empty : (kind : ℕ) → headText kind 0 ≡ messageText kind (accepted [])
-empty kind = head-is kind 0 (omega arith) ∙ sym (message-is kind [] refl (omega arith) ∙ rw append-nil)
+pub empty : (kind : ℕ) → headText kind 0 ≡ messageText (headText kind) (accepted [])
+empty kind =
+    let h = head-is kind 0 (omega arith) in
+    h ∙ sym (message-is (headText kind) (headBytes kind 0) [] h refl ∙ rw append-nil)
 
 -- a part that lies outside, or is too long for the field, is no text of it
 not-field : (w : ℕ) (t : Bool) (p : List ℕ) → both t (allowed (sized w) (length p)) ≡ false
-    → then (pick t (accepted p) (refused (refusal BadLength 0 0))) (λ q. fieldText (sized w) q) ≡ refused (refusal BadLength 0 0)
+    → then (pick t (accepted p) (refused (unplaced BadLength))) (λ q. fieldText (sized w) q) ≡ refused (unplaced BadLength)
 not-field w true p e = text-not (sized w) p e
 not-field w false p e = refl
 
 -- a message's text is its body's behind a length of three bytes, and the type before them
-behind-three : (kind : ℕ) (b : Answer (List ℕ)) → messageText kind b ≡ then (then b (λ p. fieldText (sized 3) p)) (λ t. accepted (bytesOf 1 kind ++ t))
-unfolding messageText
-behind-three kind (accepted p) = refl
-behind-three kind (refused r) = refl
+behind-three : (kind : ℕ) (b : Answer (List ℕ)) → messageText (headText kind) b ≡ then (then b (λ p. fieldText (sized 3) p)) (λ t. accepted (bytesOf 1 kind ++ t))
+behind-three kind (accepted p) = same-text kind (accepted p)
+behind-three kind (refused r) = same-text kind (refused r)
 
--- the part p of s that v names, behind its length: a body of n bytes, and the text that puts it in
-pub record SizedBody (s : List ℕ) (v : View) (w : ℕ) (p : List ℕ) (n : ℕ) : Type 0 where
-  pub body : Body (sizedText w s v) (fieldBytes (sized w) p) n
+-- the part p of s that v names, behind its length: a message with a body of n bytes, and the text that puts it in
+pub record SizedMessage (kind : ℕ) (s : List ℕ) (v : View) (w : ℕ) (p : List ℕ) (n : ℕ) : Type 0 where
+  pub message : Message (headText kind) 4 (sizedText w s v) (fieldBytes (sized w) p) n
   pub by : fieldText (sized w) p ≡ accepted (fieldBytes (sized w) p)
 
 module _ (s : List ℕ) (v : View) where
-  sized-not : (w : ℕ) → mayStand (sized w) asView s v ≡ false → sizedText w s v ≡ refused (refusal BadLength 0 0)
+  sized-not : (w : ℕ) → mayStand (sized w) asView s v ≡ false → sizedText w s v ≡ refused (unplaced BadLength)
   unfolding sizedText viewText
   sized-not w e = not-field w (inside s v) (partOf s v) e
 
   -- a part that may not be written
-  pub sized-refused : (w kind : ℕ) (d : List ℕ) {t : Bool} {r : Refusal} → t ≡ mayStand (sized w) asView s v → not t ≡ true → r ≡ refusal BadLength 0 0 → Came (messageText kind (sizedText w s v)) 0 d (refused r) d
-  sized-refused w kind d {t} m n q = message-refused kind d (sized-not w (sym m ∙ not-true t n) ∙ ap refused (sym q))
+  pub sized-refused : (w kind : ℕ) (d : List ℕ) {t : Bool} {r : Refusal} → t ≡ mayStand (sized w) asView s v → not t ≡ true → r ≡ unplaced BadLength → Came (messageText (headText kind) (sizedText w s v)) 0 d (refused r) d
+  sized-refused w kind d {t} m n q = message-refused (headText kind) d (sized-not w (sym m ∙ not-true t n) ∙ ap refused (sym q))
 
-  pub view-refused : (kind : ℕ) (d : List ℕ) {t : Bool} {r : Refusal} → t ≡ mayStand (sized 3) asView s v → not t ≡ true → r ≡ refusal BadLength 0 0 → Came (messageText kind (viewText s v)) 0 d (refused r) d
+  pub view-refused : (kind : ℕ) (d : List ℕ) {t : Bool} {r : Refusal} → t ≡ mayStand (sized 3) asView s v → not t ≡ true → r ≡ unplaced BadLength → Came (messageText (headText kind) (viewText s v)) 0 d (refused r) d
   unfolding sizedText
   view-refused kind d {t} m n q = text-refused 0 d (behind-three kind (viewText s v) ∙ ap (λ (x : Answer (List ℕ)). then x (λ b. accepted (bytesOf 1 kind ++ b))) (sized-not 3 (sym m ∙ not-true t n) ∙ ap refused (sym q)))
 
@@ -68,7 +69,7 @@ module _ (s : List ℕ) (v : View) where
 
     view-is : viewText s v ≡ accepted p
     unfolding viewText
-    view-is = rw q (ap (λ (t : Bool). pick t (accepted (partOf s v)) (refused (refusal BadLength 0 0))) (both-true (inside s v) _ may .0))
+    view-is = rw q (ap (λ (t : Bool). pick t (accepted (partOf s v)) (refused (unplaced BadLength))) (both-true (inside s v) _ may .0))
 
     stands : allowed (sized w) (length p) ≡ true
     stands = rw q (both-true (inside s v) _ may .1)
@@ -76,12 +77,12 @@ module _ (s : List ℕ) (v : View) where
     below : length p < 256 ^ w
     below = ltb-true _ _ (both-true _ _ stands .0)
 
-    pub sized-body : w ≤ 2 → (k : ℕ) → k ≡ w → SizedBody s v w p (k + length p)
+    pub sized-message : (kind : ℕ) → w ≤ 2 → (k : ℕ) → k ≡ w → SizedMessage kind s v w p (k + length p)
     unfolding sizedText
-    sized-body h k g =
+    sized-message kind h k g =
         let t = text-may (sized w) p stands in
         let m : k + length p < 16777216 = omega (arith, below, pow-le-pow-right {n = 256} (omega arith) h) in
-        record { body = record { is = rw view-is t; long = rw g (sym (length-counted w (ruleOf Plain) p)); small = m }; by = t }
+        record { message = short-head kind (rw view-is t) (rw g (sym (length-counted w (ruleOf Plain) p))) m; by = t }
 
-  pub view-body : {t : Bool} → t ≡ mayStand (sized 3) asView s v → not t ≡ false → (p : List ℕ) → p ≡ partOf s v → Body (viewText s v) p (length p)
-  view-body m n p q = record { is = view-is 3 m n p q; long = refl; small = below 3 m n p q }
+  pub view-message : (kind : ℕ) {t : Bool} → t ≡ mayStand (sized 3) asView s v → not t ≡ false → (p : List ℕ) → p ≡ partOf s v → Message (headText kind) 4 (viewText s v) p (length p)
+  view-message kind m n p q = short-head kind (view-is 3 m n p q) refl (below 3 m n p q)

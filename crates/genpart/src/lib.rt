@@ -5,7 +5,7 @@ ghost use Prim.Native.Nat.{_≤_};
 ghost use Rattle.refusal.specs.Answers.{Answer};
 ghost use Rattle.wire.specs.Numbers.{bytesIn};
 ghost use Rattle.wire.specs.Puts.{room, written, writeSays};
-ghost use Rattle.text.specs.Messages.{messageText, sizedText, viewText};
+ghost use Rattle.text.specs.Messages.{headText, messageText, sizedText, viewText};
 ghost use Rattle.genpart.specs.Exchange.{exchangeText};
 use field::Kind;
 use message::keyexchange::TlsClientKeyExchangeContents;
@@ -17,14 +17,14 @@ use wire::view::View;
 
 // A message whose body is the part that `v` names.
 fn gen_view(kind: u8, v: View, i: &[u8], out: &mut [u8]) -> WriteAnswer
-    ensures { λ r. ⌜ writeSays r ≡ room (messageText kind (viewText (now (i .entry)) v)) 0 (now (out .entry)) ⌝ }
-    ensures { λ _. ⌜ now (out .exit) ≡ written (messageText kind (viewText (now (i .entry)) v)) 0 (now (out .entry)) ⌝ }
+    ensures { λ r. ⌜ writeSays r ≡ room (messageText (headText kind) (viewText (now (i .entry)) v)) 0 (now (out .entry)) ⌝ }
+    ensures { λ _. ⌜ now (out .exit) ≡ written (messageText (headText kind) (viewText (now (i .entry)) v)) 0 (now (out .entry)) ⌝ }
 {
     if !text::part_may(i, v, Width::Three, Kind::Plain) {
-        return WriteAnswer::Refused(refusal::refuse(Reason::BadLength, 0, 0));
+        return WriteAnswer::Refused(refusal::unplaced(Reason::BadLength));
     }
     let part = wire::view::part_of(i, v);
-    match wire::view::take_or(out, 0, 4 + part.len(), Reason::NoRoom) {
+    match wire::output::room_for(out, 0, 4 + part.len()) {
         PartAnswer::Refused(r) => WriteAnswer::Refused(r),
         PartAnswer::Got(p) => {
             wire::output::gen_bytes(&mut out[4..], 0, part);
@@ -37,15 +37,15 @@ fn gen_view(kind: u8, v: View, i: &[u8], out: &mut [u8]) -> WriteAnswer
 // A message whose body is that part behind its length.
 fn gen_sized(kind: u8, w: Width, v: View, i: &[u8], out: &mut [u8]) -> WriteAnswer
     requires { ⌜ bytesIn w ≤ 2 ⌝ }
-    ensures { λ r. ⌜ writeSays r ≡ room (messageText kind (sizedText (bytesIn w) (now (i .entry)) v)) 0 (now (out .entry)) ⌝ }
-    ensures { λ _. ⌜ now (out .exit) ≡ written (messageText kind (sizedText (bytesIn w) (now (i .entry)) v)) 0 (now (out .entry)) ⌝ }
+    ensures { λ r. ⌜ writeSays r ≡ room (messageText (headText kind) (sizedText (bytesIn w) (now (i .entry)) v)) 0 (now (out .entry)) ⌝ }
+    ensures { λ _. ⌜ now (out .exit) ≡ written (messageText (headText kind) (sizedText (bytesIn w) (now (i .entry)) v)) 0 (now (out .entry)) ⌝ }
 {
     if !text::part_may(i, v, w, Kind::Plain) {
-        return WriteAnswer::Refused(refusal::refuse(Reason::BadLength, 0, 0));
+        return WriteAnswer::Refused(refusal::unplaced(Reason::BadLength));
     }
     let part = wire::view::part_of(i, v);
     let n = wire::number::width_bytes(w) + part.len();
-    match wire::view::take_or(out, 0, 4 + n, Reason::NoRoom) {
+    match wire::output::room_for(out, 0, 4 + n) {
         PartAnswer::Refused(r) => WriteAnswer::Refused(r),
         PartAnswer::Got(p) => {
             field::gen_length_data(&mut out[4..], 0, w, Kind::Plain, part);
@@ -61,8 +61,8 @@ pub fn gen_tls_clientkeyexchange(
     i: &[u8],
     out: &mut [u8],
 ) -> WriteAnswer
-    ensures { λ r. ⌜ writeSays r ≡ room (messageText 0x10 (exchangeText (now (i .entry)) m)) 0 (now (out .entry)) ⌝ }
-    ensures { λ _. ⌜ now (out .exit) ≡ written (messageText 0x10 (exchangeText (now (i .entry)) m)) 0 (now (out .entry)) ⌝ }
+    ensures { λ r. ⌜ writeSays r ≡ room (messageText (headText 0x10) (exchangeText (now (i .entry)) m)) 0 (now (out .entry)) ⌝ }
+    ensures { λ _. ⌜ now (out .exit) ≡ written (messageText (headText 0x10) (exchangeText (now (i .entry)) m)) 0 (now (out .entry)) ⌝ }
 {
     match m {
         TlsClientKeyExchangeContents::Unknown(v) => gen_view(0x10, v, i, out),
@@ -73,16 +73,16 @@ pub fn gen_tls_clientkeyexchange(
 
 // Four bytes, or NoRoom. A refusal changes no byte.
 pub fn gen_tls_hellorequest(out: &mut [u8]) -> WriteAnswer
-    ensures { λ r. ⌜ writeSays r ≡ room (messageText 0x00 (Answer.accepted [])) 0 (now (out .entry)) ⌝ }
-    ensures { λ _. ⌜ now (out .exit) ≡ written (messageText 0x00 (Answer.accepted [])) 0 (now (out .entry)) ⌝ }
+    ensures { λ r. ⌜ writeSays r ≡ room (messageText (headText 0x00) (Answer.accepted [])) 0 (now (out .entry)) ⌝ }
+    ensures { λ _. ⌜ now (out .exit) ≡ written (messageText (headText 0x00) (Answer.accepted [])) 0 (now (out .entry)) ⌝ }
 {
     text::gen_head(out, 0x00, 0)
 }
 
 // BadLength, then NoRoom. A refusal changes no byte.
 pub fn gen_tls_finished(m: View, i: &[u8], out: &mut [u8]) -> WriteAnswer
-    ensures { λ r. ⌜ writeSays r ≡ room (messageText 0x14 (viewText (now (i .entry)) m)) 0 (now (out .entry)) ⌝ }
-    ensures { λ _. ⌜ now (out .exit) ≡ written (messageText 0x14 (viewText (now (i .entry)) m)) 0 (now (out .entry)) ⌝ }
+    ensures { λ r. ⌜ writeSays r ≡ room (messageText (headText 0x14) (viewText (now (i .entry)) m)) 0 (now (out .entry)) ⌝ }
+    ensures { λ _. ⌜ now (out .exit) ≡ written (messageText (headText 0x14) (viewText (now (i .entry)) m)) 0 (now (out .entry)) ⌝ }
 {
     gen_view(0x14, m, i, out)
 }

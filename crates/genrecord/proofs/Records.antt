@@ -7,14 +7,13 @@ use mathlib.Core.Bool.{true, false}
 use native.Mathlib.Omega.{arith}
 use lib.ListN.{length, length-append}
 use Rattle.refusal.specs.Answers.{accepted, refused}
-use Rattle.refusal.specs.Refusals.{refusal}
-use Rattle.refusal.specs.declared.Reason.the-variants.{TooLarge, NoRoom}
+use Rattle.refusal.specs.Refusals.{unplaced}
+use Rattle.refusal.specs.declared.Reason.the-variants.{TooLarge}
 use Rattle.refusal.specs.declared.Refusal.{Refusal}
-use Rattle.wire.specs.Parts.{partAt}
 use Rattle.wire.specs.Numbers.{bytesOf, numberText}
-use Rattle.wire.specs.Puts.{written}
+use Rattle.wire.specs.Puts.{roomAt, written}
 use Rattle.wire.specs.declared.view.Part.{Part}
-use Rattle.wire.proofs.Parts.{fits}
+use Rattle.wire.proofs.Parts.{room-fits}
 use Rattle.wire.proofs.Numbers.{length-bytes}
 use Rattle.wire.proofs.Puts.{Came, text-refused, text-in, text-out, number-accepted}
 use Rattle.field.specs.Standing.{fieldBytes}
@@ -34,7 +33,7 @@ module _ (hdr : TlsRecordHeader) (p d : List ℕ) where
   length-whole : length (whole hdr p) ≡ 5 + length p
   length-whole = simp (length-append, length-bytes) (omega arith)
 
-  pub record-not : allowed fragment (length p) ≡ false → Came (recordText hdr p) 0 d (refused (refusal TooLarge 0 0)) d
+  pub record-not : allowed fragment (length p) ≡ false → Came (recordText hdr p) 0 d (refused (unplaced TooLarge)) d
   unfolding recordText
   record-not e = text-refused 0 d (rw e)
 
@@ -43,14 +42,14 @@ module _ (hdr : TlsRecordHeader) (p d : List ℕ) where
     unfolding recordText join
     record-is = rw (e, append-nil)
 
-    pub record-out : {r : Refusal} → partAt NoRoom d 0 (5 + length p) ≡ refused r → Came (recordText hdr p) 0 d (refused r) d
+    pub record-out : {r : Refusal} → roomAt d 0 (5 + length p) ≡ refused r → Came (recordText hdr p) 0 d (refused r) d
     record-out {r} q = text-out (whole hdr p) 0 d {r = r} record-is (rw length-whole q)
 
-    pub record-in : {x : Part} (o o′ o″ : List ℕ) → hdr .«record_type» < 256 → hdr .version < 65536 → partAt NoRoom d 0 (5 + length p) ≡ accepted x
+    pub record-in : {x : Part} (o o′ o″ : List ℕ) → hdr .«record_type» < 256 → hdr .version < 65536 → roomAt d 0 (5 + length p) ≡ accepted x
         → o ≡ written (numberText 1 (hdr .«record_type»)) 0 d → o′ ≡ written (numberText 2 (hdr .version)) 1 o → o″ ≡ written (fieldText fragment p) 3 o′
         → Came (recordText hdr p) 0 d (accepted (x .next)) o″
     record-in {x} o o′ o″ t v q e₁ e₂ e₃ =
-        let a = begin d (whole hdr p) (omega (arith, length-whole, fits NoRoom d 0 (5 + length p) q .inside)) in
+        let a = begin d (whole hdr p) (omega (arith, length-whole, room-fits d 0 (5 + length p) q .inside)) in
         let b = next (bytesOf 1 (hdr .«record_type»)) (bytesOf 2 (hdr .version) ++ fieldBytes fragment p) a (number-accepted 1 _ t) o 1 e₁ (omega (arith, length-bytes 1 (hdr .«record_type»))) in
         let g = next (bytesOf 2 (hdr .version)) (fieldBytes fragment p) b (number-accepted 2 _ v) o′ 3 e₂ (omega (arith, length-bytes 2 (hdr .version))) in
         let c = text-in (whole hdr p) 0 d {p = x} record-is (rw length-whole q) in

@@ -1,10 +1,8 @@
 -- A record written: document 01, "The record writer refuses more than 16,640 bytes as TooLarge; it writes an empty one. It copies the type,
 -- the version and the lent bytes, and does not open them." The bytes are the fields by which a raw record is read, joined; RFC 5246 6.2.1.
-use Prim.Native.Nat.{ℕ}
-use mathlib.Core.List.{List}
-use lib.ListN.{length}
+use Rattle.refusal.specs.Words.{ℕ, List, length}
 use Rattle.refusal.specs.Answers.{Answer, accepted, refused}
-use Rattle.refusal.specs.Refusals.{refusal}
+use Rattle.refusal.specs.Refusals.{unplaced}
 use Rattle.refusal.specs.declared.Reason.the-variants.{TooLarge}
 use Rattle.wire.specs.Parts.{pick}
 use Rattle.wire.specs.Numbers.{bytesOf}
@@ -15,7 +13,7 @@ use Rattle.record.specs.declared.TlsRecordHeader.{TlsRecordHeader}
 
 -- the header's own length is not looked at: the content's is written
 abbrev pub recordBytes : TlsRecordHeader → List ℕ → List ℕ
-recordBytes hdr p = join (raw .grammar .fields) (bytesOf 1 (hdr .«record_type»), (bytesOf 2 (hdr .version), (p, tt)))
+recordBytes hdr p = join (raw .grammar .rows) (bytesOf 1 (hdr .«record_type»), (bytesOf 2 (hdr .version), (p, tt)))
 
 unfoldable pub recordText : TlsRecordHeader → List ℕ → Answer (List ℕ)
-recordText hdr p = pick (allowed fragment (length p)) (accepted (recordBytes hdr p)) (refused (refusal TooLarge 0 0))
+recordText hdr p = pick (allowed fragment (length p)) (accepted (recordBytes hdr p)) (refused (unplaced TooLarge))

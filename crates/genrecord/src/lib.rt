@@ -16,9 +16,9 @@ pub fn gen_tls_plaintext(hdr: TlsRecordHeader, msg: &[u8], out: &mut [u8]) -> Wr
     ensures { λ _. ⌜ now (out .exit) ≡ written (recordText hdr (now (msg .entry))) 0 (now (out .entry)) ⌝ }
 {
     if !field::may_follow(Width::Two, Kind::Fragment, msg.len()) {
-        return WriteAnswer::Refused(refusal::refuse(Reason::TooLarge, 0, 0));
+        return WriteAnswer::Refused(refusal::unplaced(Reason::TooLarge));
     }
-    match wire::view::take_or(out, 0, 5 + msg.len(), Reason::NoRoom) {
+    match wire::output::room_for(out, 0, 5 + msg.len()) {
         PartAnswer::Refused(r) => WriteAnswer::Refused(r),
         PartAnswer::Got(p) => {
             wire::number::gen_be(out, 0, Width::One, hdr.record_type as usize);

@@ -21,7 +21,7 @@ pub server-put : (d s : List ℕ) (m : TlsServerHelloContents) (o₁ o₂ o₃ o
     → m .version < 65536 → m .cipher < 65536 → m .compression < 256
     → o₁ ≡ written (numberText 2 (m .version)) 0 d
     → o₂ ≡ written (accepted (partOf s (m .random))) 2 o₁
-    → o₃ ≡ written (fieldText sessionId (optPartOf s (m .«session_id»))) 34 o₂
+    → o₃ ≡ written (fieldText (sessionId .0) (optPartOf s (m .«session_id»))) 34 o₂
     → n ≡ 35 + length (optPartOf s (m .«session_id»)) → o₄ ≡ written (numberText 2 (m .cipher)) n o₃
     → o₅ ≡ written (numberText 1 (m .compression)) (n + 2) o₄
     → o₆ ≡ written (fieldText extensions (optPartOf s (m .ext))) (n + 3) o₅
@@ -30,9 +30,9 @@ unfolding helloBytes
 server-put d s m o₁ o₂ o₃ o₄ o₅ o₆ n h f v c k e₁ e₂ e₃ x e₄ e₅ e₆ =
     let p = h .fields in
     let a = begin d (helloBytes (server true) s m) f in
-    let a₁ = number 2 _ _ _ 2 (m .version) a v e₁ (omega arith) in
-    let a₂ = and 34 _ _ _ random (partOf s (m .random)) a₁ {t = accepted (partOf s (m .random))} refl e₂ (omega (arith, p .1 .0)) in
-    let a₃ = part n _ _ _ _ _ (optPartOf s (m .«session_id»)) a₂ (p .1 .1 .0) e₃ (omega arith) in
-    let a₄ = number (n + 2) _ _ _ 2 (m .cipher) a₃ c e₄ (omega arith) in
-    let a₅ = number (n + 3) _ _ _ 1 (m .compression) a₄ k e₅ (omega arith) in
+    let a₁ = number 2 _ 2 (m .version) a v e₁ (omega arith) in
+    let a₂ = and 34 _ (random .0) (partOf s (m .random)) a₁ {t = accepted (partOf s (m .random))} refl e₂ (omega (arith, p .1 .0)) in
+    let a₃ = part n _ _ _ (optPartOf s (m .«session_id»)) a₂ (p .1 .1 .0) e₃ (omega arith) in
+    let a₄ = number (n + 2) _ 2 (m .cipher) a₃ c e₄ (omega arith) in
+    let a₅ = number (n + 3) _ 1 (m .compression) a₄ k e₅ (omega arith) in
     close extensions (optPartOf s (m .ext)) a₅ (h .last) e₆

@@ -7,16 +7,16 @@ use Rattle.refusal.specs.Answers.{Answer, accepted, refused, then}
 use Rattle.refusal.specs.declared.Refusal.{Refusal}
 use Rattle.wire.specs.declared.view.View.{View}
 use Rattle.wire.specs.declared.view.Part.{Part}
-use Rattle.field.specs.Fields.{Field, step}
-use Rattle.grammar.specs.Grammars.{Each}
+use Rattle.field.specs.Fields.{step}
+use Rattle.grammar.specs.Grammars.{Row, Views}
 use Rattle.grammar.specs.Reading.{fieldsAt, lastAt, withLast, read}
 use Rattle.grammar.specs.Forms.{Form, valueOf, reading}
 
 -- the whole comes down to the fields that are left, from the place reached on
-pub record So {X : Type 0} (whole : Answer X) (s : List ℕ) (fs : List Field) : Type 0 where
+pub record So {X : Type 0} (whole : Answer X) (s : List ℕ) (rs : List Row) : Type 0 where
   pub n : ℕ
-  pub k : Each View fs × ℕ → Answer X
-  pub on : whole ≡ then (fieldsAt fs s n) k
+  pub k : Views rs × ℕ → Answer X
+  pub on : whole ≡ then (fieldsAt rs s n) k
 
 then-then : {A B C : Type 0} (x : Answer A) (f : A → B) (k : B → Answer C) → then (then x (λ a. accepted (f a))) k ≡ then x (λ a. k (f a))
 then-then (accepted a) f k = refl
@@ -31,25 +31,25 @@ then-both : {A B C D : Type 0} (x : Answer A) (y : A → Answer B) (f : A → B 
 then-both (accepted a) y f g = then-then (y a) (f a) (λ c. accepted (g c))
 then-both (refused r) y f g = refl
 
-pub begin-on : {C : Type 0} (k : Form C) (s : List ℕ) → reading k s ≡ then (fieldsAt (k .grammar .fields) s 0) (λ q. accepted (valueOf k s (withLast (k .grammar) (q .0) (lastAt (k .grammar .block) s (q .1)))))
+pub begin-on : {C : Type 0} (k : Form C) (s : List ℕ) → reading k s ≡ then (fieldsAt (k .grammar .rows) s 0) (λ q. accepted (valueOf k s (withLast (k .grammar) (q .0) (lastAt (k .grammar .block) s (q .1)))))
 unfolding reading read
-begin-on k s = then-then (fieldsAt (k .grammar .fields) s 0) (λ q. withLast (k .grammar) (q .0) (lastAt (k .grammar .block) s (q .1))) (λ h. accepted (valueOf k s h))
+begin-on k s = then-then (fieldsAt (k .grammar .rows) s 0) (λ q. withLast (k .grammar) (q .0) (lastAt (k .grammar .block) s (q .1))) (λ h. accepted (valueOf k s h))
 
 -- a form's reading before its first field
-abbrev pub begin : {C : Type 0} (k : Form C) (s : List ℕ) → So (reading k s) s (k .grammar .fields)
+abbrev pub begin : {C : Type 0} (k : Form C) (s : List ℕ) → So (reading k s) s (k .grammar .rows)
 begin k s = record { n = 0; k = λ q. accepted (valueOf k s (withLast (k .grammar) (q .0) (lastAt (k .grammar .block) s (q .1)))); on = begin-on k s }
 
-pub and-on : {X : Type 0} {whole : Answer X} {s : List ℕ} {f : Field} {fs : List Field} (o : So whole s (f ∷ fs)) {p : Part} → step f s (o .n) ≡ accepted p
-    → whole ≡ then (fieldsAt fs s (p .next)) (λ q. o .k ((p .view, q .0), q .1))
+pub and-on : {X : Type 0} {whole : Answer X} {s : List ℕ} {w : Row} {rs : List Row} (o : So whole s (w ∷ rs)) {p : Part} → step (w .0) s (o .n) ≡ accepted p
+    → whole ≡ then (fieldsAt rs s (p .next)) (λ q. o .k ((p .view, q .0), q .1))
 unfolding fieldsAt
-and-on {fs = fs} o {p} e = o .on ∙ rw e (then-then (fieldsAt fs _ (p .next)) (λ q. ((p .view, q .0), q .1)) (o .k))
+and-on {rs = rs} o {p} e = o .on ∙ rw e (then-then (fieldsAt rs _ (p .next)) (λ q. ((p .view, q .0), q .1)) (o .k))
 
 -- one field more
-abbrev pub and : {X : Type 0} {whole : Answer X} {s : List ℕ} {f : Field} {fs : List Field} (o : So whole s (f ∷ fs)) {p : Part} → step f s (o .n) ≡ accepted p → So whole s fs
+abbrev pub and : {X : Type 0} {whole : Answer X} {s : List ℕ} {w : Row} {rs : List Row} (o : So whole s (w ∷ rs)) {p : Part} → step (w .0) s (o .n) ≡ accepted p → So whole s rs
 and o {p} e = record { n = p .next; k = λ q. o .k ((p .view, q .0), q .1); on = and-on o e }
 
 -- the field that cannot be had
-pub stop : {X : Type 0} {whole : Answer X} {s : List ℕ} {f : Field} {fs : List Field} (o : So whole s (f ∷ fs)) {r : Refusal} → step f s (o .n) ≡ refused r → whole ≡ refused r
+pub stop : {X : Type 0} {whole : Answer X} {s : List ℕ} {w : Row} {rs : List Row} (o : So whole s (w ∷ rs)) {r : Refusal} → step (w .0) s (o .n) ≡ refused r → whole ≡ refused r
 unfolding fieldsAt
 stop o e = o .on ∙ rw e
 
@@ -59,36 +59,36 @@ unfolding fieldsAt
 end o = o .on
 
 -- the views of some fields in a row with those of the fields after them, and the place past all
-abbrev pub both : (fs gs : List Field) → Each View fs → Each View gs → Each View (fs ++ gs)
-both [] gs xs ys = ys
-both (f ∷ fs) gs (x, xs) ys = (x, both fs gs xs ys)
+abbrev pub both : (rs us : List Row) → Views rs → Views us → Views (rs ++ us)
+both [] us xs ys = ys
+both (w ∷ rs) us (x, xs) ys = (x, both rs us xs ys)
 
-abbrev one : (f : Field) (fs : List Field) → View → Each View fs × ℕ → Each View (f ∷ fs) × ℕ
-one f fs v q = ((v, q .0), q .1)
+abbrev one : (w : Row) (rs : List Row) → View → Views rs × ℕ → Views (w ∷ rs) × ℕ
+one w rs v q = ((v, q .0), q .1)
 
-abbrev onto : (fs gs : List Field) → Each View fs × ℕ → Each View gs × ℕ → Each View (fs ++ gs) × ℕ
-onto fs gs q t = (both fs gs (q .0) (t .0), t .1)
+abbrev onto : (rs us : List Row) → Views rs × ℕ → Views us × ℕ → Views (rs ++ us) × ℕ
+onto rs us q t = (both rs us (q .0) (t .0), t .1)
 
 -- fields are read one row after the other
-rows : (fs gs : List Field) (s : List ℕ) (at : ℕ) → fieldsAt (fs ++ gs) s at ≡ then (fieldsAt fs s at) (λ q. then (fieldsAt gs s (q .1)) (λ t. accepted (onto fs gs q t)))
+rows : (rs us : List Row) (s : List ℕ) (at : ℕ) → fieldsAt (rs ++ us) s at ≡ then (fieldsAt rs s at) (λ q. then (fieldsAt us s (q .1)) (λ t. accepted (onto rs us q t)))
 unfolding fieldsAt
-rows [] gs s at = sym (then-same (fieldsAt gs s at))
-rows (f ∷ fs) gs s at = go (step f s at) (λ n. rows fs gs s n)
+rows [] us s at = sym (then-same (fieldsAt us s at))
+rows (w ∷ rs) us s at = go (step (w .0) s at) (λ n. rows rs us s n)
   where
-    go : (a : Answer Part) → ((n : ℕ) → fieldsAt (fs ++ gs) s n ≡ then (fieldsAt fs s n) (λ q. then (fieldsAt gs s (q .1)) (λ t. accepted (onto fs gs q t))))
-        → then a (λ p. then (fieldsAt (fs ++ gs) s (p .next)) (λ q. accepted (one f (fs ++ gs) (p .view) q)))
-        ≡ then (then a (λ p. then (fieldsAt fs s (p .next)) (λ q. accepted (one f fs (p .view) q)))) (λ q. then (fieldsAt gs s (q .1)) (λ t. accepted (onto (f ∷ fs) gs q t)))
+    go : (a : Answer Part) → ((n : ℕ) → fieldsAt (rs ++ us) s n ≡ then (fieldsAt rs s n) (λ q. then (fieldsAt us s (q .1)) (λ t. accepted (onto rs us q t))))
+        → then a (λ p. then (fieldsAt (rs ++ us) s (p .next)) (λ q. accepted (one w (rs ++ us) (p .view) q)))
+        ≡ then (then a (λ p. then (fieldsAt rs s (p .next)) (λ q. accepted (one w rs (p .view) q)))) (λ q. then (fieldsAt us s (q .1)) (λ t. accepted (onto (w ∷ rs) us q t)))
     go (refused r) ih = refl
     go (accepted p) ih =
         rw (ih (p .next))
-        (then-both (fieldsAt fs s (p .next)) (λ q. fieldsAt gs s (q .1)) (onto fs gs) (one f (fs ++ gs) (p .view))
-        ∙ sym (then-then (fieldsAt fs s (p .next)) (one f fs (p .view)) (λ q. then (fieldsAt gs s (q .1)) (λ t. accepted (onto (f ∷ fs) gs q t)))))
+        (then-both (fieldsAt rs s (p .next)) (λ q. fieldsAt us s (q .1)) (onto rs us) (one w (rs ++ us) (p .view))
+        ∙ sym (then-then (fieldsAt rs s (p .next)) (one w rs (p .view)) (λ q. then (fieldsAt us s (q .1)) (λ t. accepted (onto (w ∷ rs) us q t)))))
 
 -- some fields more
-pub and-all-on : {X : Type 0} {whole : Answer X} {s : List ℕ} (fs gs : List Field) (o : So whole s (fs ++ gs)) {q : Each View fs × ℕ} → fieldsAt fs s (o .n) ≡ accepted q
-    → whole ≡ then (fieldsAt gs s (q .1)) (λ t. o .k (both fs gs (q .0) (t .0), t .1))
-and-all-on {s = s} fs gs o {q} e = o .on ∙ rw (rows fs gs s (o .n), e) (then-then (fieldsAt gs s (q .1)) (onto fs gs q) (o .k))
+pub and-all-on : {X : Type 0} {whole : Answer X} {s : List ℕ} (rs us : List Row) (o : So whole s (rs ++ us)) {q : Views rs × ℕ} → fieldsAt rs s (o .n) ≡ accepted q
+    → whole ≡ then (fieldsAt us s (q .1)) (λ t. o .k (both rs us (q .0) (t .0), t .1))
+and-all-on {s = s} rs us o {q} e = o .on ∙ rw (rows rs us s (o .n), e) (then-then (fieldsAt us s (q .1)) (onto rs us q) (o .k))
 
 -- some fields, of which one cannot be had
-pub stop-all : {X : Type 0} {whole : Answer X} {s : List ℕ} (fs gs : List Field) (o : So whole s (fs ++ gs)) {r : Refusal} → fieldsAt fs s (o .n) ≡ refused r → whole ≡ refused r
-stop-all {s = s} fs gs o e = o .on ∙ rw (rows fs gs s (o .n), e)
+pub stop-all : {X : Type 0} {whole : Answer X} {s : List ℕ} (rs us : List Row) (o : So whole s (rs ++ us)) {r : Refusal} → fieldsAt rs s (o .n) ≡ refused r → whole ≡ refused r
+stop-all {s = s} rs us o e = o .on ∙ rw (rows rs us s (o .n), e)

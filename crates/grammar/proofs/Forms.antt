@@ -14,8 +14,7 @@ use Rattle.grammar.specs.Grammars.{Grammar, Handed}
 use Rattle.grammar.specs.Splits.{Pieces, Split, handedOf, FirstLacks}
 use Rattle.grammar.specs.Reading.{fieldsAt, lastAt, withLast, read}
 use Rattle.grammar.specs.Forms.{Form, outs, valueOf, reading, pieces, views}
-use Rattle.grammar.specs.Lawful.{ifAny, Lawful}
-use Rattle.grammar.specs.Demand3.{InRow, BySplit, EveryForm}
+use Rattle.grammar.specs.Demand3.{ifAny, Lawful, InRow, BySplit, EveryForm}
 use Rattle.grammar.proofs.Whole.{piecesOf, whichever, accepts, splits, only, order, refuses, lacks}
 use Rattle.grammar.proofs.Outs.{all-named, all-in-row}
 
@@ -26,7 +25,7 @@ last-any (some f) s at = refl
 read-any : (g : Grammar) (s : List ℕ) (h : Handed g) → read g s ≡ accepted h → ifAny (g .block) (h .block) ≡ h .block
 unfolding read
 read-any g s h e =
-    let t = then-accepted (fieldsAt (g .fields) s 0) (λ q. accepted (withLast g (q .0) (lastAt (g .block) s (q .1)))) e in
+    let t = then-accepted (fieldsAt (g .rows) s 0) (λ q. accepted (withLast g (q .0) (lastAt (g .block) s (q .1)))) e in
     let d : withLast g (t .0 .0) (lastAt (g .block) s (t .0 .1)) ≡ h = cc (t .2) in
     rw (← d) (last-any (g .block) s (t .0 .1))
 
@@ -37,13 +36,13 @@ module _ {C : Type 0} (k : Form C) (l : Lawful k) (s : List ℕ) (b : Bytes s) w
   made c e = let t = then-accepted (read (k .grammar) s) (λ h. accepted (valueOf k s h)) e in (t .0, t .1, cc (t .2))
 
   block-back : (h : Handed (k .grammar)) → read (k .grammar) s ≡ accepted h → k .block (valueOf k s h) ≡ h .block
-  block-back h e = rw (read-any (k .grammar) s h e) at (l .block (outs (k .grammar .fields) (k .how) s (h .views)) (h .block) (h .tail))
+  block-back h e = rw (read-any (k .grammar) s h e) at (l .block (outs (k .grammar .rows) s (h .views)) (h .block) (h .tail))
 
   -- and names its pieces
   names : (h : Handed (k .grammar)) → read (k .grammar) s ≡ accepted h → Split (k .grammar) s (piecesOf (k .grammar) s h) → pieces k s (valueOf k s h) ≡ piecesOf (k .grammar) s h
   names h e y =
-      let o = outs (k .grammar .fields) (k .how) s (h .views) in
-      rw (l .handed o (h .block) (h .tail), block-back h e, l .tail o (h .block) (h .tail), all-named (k .grammar .fields) (k .how) (l .suits) s (h .views) b (y .obey))
+      let o = outs (k .grammar .rows) s (h .views) in
+      rw (l .handed o (h .block) (h .tail), block-back h e, l .tail o (h .block) (h .tail), all-named (k .grammar .rows) (l .suits) s (h .views) b (y .obey))
 
   value-splits : (c : C) → reading k s ≡ accepted c → Split (k .grammar) s (pieces k s c)
   value-splits c e =
@@ -56,23 +55,23 @@ module _ {C : Type 0} (k : Form C) (l : Lawful k) (s : List ℕ) (b : Bytes s) w
       let m = made c e in
       let h = m .0 in
       let r = order (k .grammar) s b h (m .1) in
-      let o = outs (k .grammar .fields) (k .how) s (h .views) in
+      let o = outs (k .grammar .rows) s (h .views) in
       rw (← (m .2), l .handed o (h .block) (h .tail), block-back h (m .1), l .tail o (h .block) (h .tail))
-      (all-in-row (k .grammar .fields) (k .how) s (h .views) (h .block) 0 (h .tail) (r .0), r .1)
+      (all-in-row (k .grammar .rows) s (h .views) (h .block) 0 (h .tail) (r .0), r .1)
 
   value-accepts : (x : Pieces (k .grammar)) → Split (k .grammar) s x → reading k s ≡ accepted (valueOf k s (handedOf (k .grammar) x))
   unfolding reading
   value-accepts x y = rw (accepts (k .grammar) s b x y)
 
-  value-refuses : (r : Refusal) → FirstLacks (k .grammar .fields) 0 s r → reading k s ≡ refused r
+  value-refuses : (r : Refusal) → FirstLacks (k .grammar .rows) 0 s r → reading k s ≡ refused r
   unfolding reading
   value-refuses r y = rw (refuses (k .grammar) s b r y)
 
-  value-lacks : (r : Refusal) → reading k s ≡ refused r → FirstLacks (k .grammar .fields) 0 s r
+  value-lacks : (r : Refusal) → reading k s ≡ refused r → FirstLacks (k .grammar .rows) 0 s r
   unfolding reading
   value-lacks r e = go (then-refused (read (k .grammar) s) (λ h. accepted (valueOf k s h)) e)
     where
-      go : (read (k .grammar) s ≡ refused r) ⊎ ((h : Handed (k .grammar)) × (read (k .grammar) s ≡ accepted h) × (_≡_ {A = Answer C} (accepted (valueOf k s h)) (refused r))) → FirstLacks (k .grammar .fields) 0 s r
+      go : (read (k .grammar) s ≡ refused r) ⊎ ((h : Handed (k .grammar)) × (read (k .grammar) s ≡ accepted h) × (_≡_ {A = Answer C} (accepted (valueOf k s h)) (refused r))) → FirstLacks (k .grammar .rows) 0 s r
       go (inl x) = lacks (k .grammar) s b r x
       go (inr (h, x, z)) = absurd (not-both refl z)
 

@@ -16,11 +16,10 @@ use Rattle.wire.specs.declared.view.OptView.the-variants.{Absent, Present}
 use Rattle.wire.proofs.Numbers.{be-drop, of-be}
 use Rattle.field.specs.Fields.{Field, fixed}
 use Rattle.field.specs.Standing.{Obeys}
-use Rattle.grammar.specs.Grammars.{Each}
+use Rattle.grammar.specs.Grammars.{How, asView, asOpt, asNumber, Row, Each, Views, Parts}
 use Rattle.grammar.specs.Splits.{AllObey}
-use Rattle.grammar.specs.Forms.{How, asView, asPart, asNumber, absentIfEmpty, out, named, ifThere, seen, outs, allNamed, allSeen}
-use Rattle.grammar.specs.Lawful.{Suits, AllSuit}
-use Rattle.grammar.specs.Demand3.{InRow}
+use Rattle.grammar.specs.Forms.{absentIfEmpty, out, named, ifThere, seen, outs, allNamed, allSeen}
+use Rattle.grammar.specs.Demand3.{Suits, InRow}
 use Rattle.grammar.proofs.Whole.{partsOf, InOrder}
 
 no-bytes : (w n : ℕ) → _≡_ {A = ℕ} 0 w → bytesOf w n ≡ []
@@ -50,14 +49,15 @@ part-part s v = go (eqb (v .len) 0) refl
     go true q = rw (q, eqb-true (v .len) 0 q) (sym (pick-same (leb (v .start + 0) (length s))))
     go false q = rw q
 
-names : (f : Field) (m : How) → Suits f m → (s : List ℕ) (v : View) → Bytes s → Obeys f (partOf s v) → named m s (out m s v) ≡ partOf s v
+names : (f : Field) (m : How) → Suits (f, m) → (s : List ℕ) (v : View) → Bytes s → Obeys f (partOf s v) → named m s (out m s v) ≡ partOf s v
 names f asView u s v b o = refl
-names f asPart u s v b o = part-part s v
+names f (asOpt true) u s v b o = refl
+names f (asOpt false) u s v b o = part-part s v
 names f (asNumber w) u s v b o = number-part w s v b (rw u at o)
 
-pub all-named : (fs : List Field) (ms : Each How fs) → AllSuit fs ms → (s : List ℕ) (vs : Each View fs) → Bytes s → AllObey fs (partsOf s fs vs) → allNamed fs ms s (outs fs ms s vs) ≡ partsOf s fs vs
-all-named [] ms u s vs b o = refl
-all-named (f ∷ fs) (m, ms) (u, us) s (v, vs) b (o, os) = ap₂ (λ (x : List ℕ) (y : Each (List ℕ) fs). (x, y)) (names f m u s v b o) (all-named fs ms us s vs b os)
+pub all-named : (rs : List Row) → Each Suits rs → (s : List ℕ) (vs : Views rs) → Bytes s → AllObey rs (partsOf s rs vs) → allNamed rs s (outs rs s vs) ≡ partsOf s rs vs
+all-named [] u s vs b o = refl
+all-named ((f, m) ∷ rs) (u, us) s (v, vs) b (o, os) = ap₂ (λ (x : List ℕ) (y : Parts rs). (x, y)) (names f m u s v b o) (all-named rs us s vs b os)
 
 -- views in a row from a later place are so from an earlier one
 sooner : (vs : List View) (from at tail : ℕ) → from ≤ at → InRow at vs tail → InRow from vs tail
@@ -74,13 +74,14 @@ part-row v vs from tail h r = go (eqb (v .len) 0) refl
 
 seen-row : (m : How) (s : List ℕ) (v : View) (vs : List View) (from tail : ℕ) → from ≤ v .start → InRow (v .start + v .len) vs tail → InRow from (seen m (out m s v) vs) tail
 seen-row asView s v vs from tail h r = (h, r)
-seen-row asPart s v vs from tail h r = part-row v vs from tail h r
+seen-row (asOpt true) s v vs from tail h r = (h, r)
+seen-row (asOpt false) s v vs from tail h r = part-row v vs from tail h r
 seen-row (asNumber w) s v vs from tail h r = sooner vs from (v .start + v .len) tail (omega arith) r
 
 block-row : (e : OptView) (from tail : ℕ) → InOrder [] tt e from tail → InRow from (ifThere e []) tail
 block-row Absent from tail o = o
 block-row (Present v) from tail o = o
 
-pub all-in-row : (fs : List Field) (ms : Each How fs) (s : List ℕ) (vs : Each View fs) (e : OptView) (from tail : ℕ) → InOrder fs vs e from tail → InRow from (allSeen fs ms (outs fs ms s vs) (ifThere e [])) tail
-all-in-row [] ms s vs e from tail o = block-row e from tail o
-all-in-row (f ∷ fs) (m, ms) s (v, vs) e from tail (h, r) = seen-row m s v _ from tail h (all-in-row fs ms s vs e (v .start + v .len) tail r)
+pub all-in-row : (rs : List Row) (s : List ℕ) (vs : Views rs) (e : OptView) (from tail : ℕ) → InOrder rs vs e from tail → InRow from (allSeen rs (outs rs s vs) (ifThere e [])) tail
+all-in-row [] s vs e from tail o = block-row e from tail o
+all-in-row ((f, m) ∷ rs) s (v, vs) e from tail (h, r) = seen-row m s v _ from tail h (all-in-row rs s vs e (v .start + v .len) tail r)

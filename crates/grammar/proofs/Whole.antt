@@ -18,39 +18,38 @@ use Rattle.wire.specs.declared.view.OptView.{OptView}
 use Rattle.wire.specs.declared.view.OptView.the-variants.{Absent, Present}
 use Rattle.field.specs.Fields.{Field, fixed, counted, step}
 use Rattle.field.specs.Standing.{fieldBytes, placeOf}
-use Rattle.grammar.specs.Grammars.{Grammar, Each, Handed}
+use Rattle.grammar.specs.Grammars.{How, Row, Grammar, each, Views, Parts, Handed}
 use Rattle.grammar.specs.Reading.{fieldsAt, ifFits, blockAt, lastAt, withLast, read}
 use Rattle.grammar.specs.Splits.{AllObey, join, Pieces, blockBytes, BlockObeys, Split, viewsOf, blockView, handedOf, blockOf, FirstLacks}
 use Rattle.grammar.specs.declared.OptPart.{OptPart}
 use Rattle.field.proofs.Steps.{length-counted, step-of, left-of, past-in, view-of, Found, step-back, step-lacks, lacks-back}
 
 -- the bytes that were handed out
-abbrev pub partsOf : List ℕ → (fs : List Field) → Each View fs → Each (List ℕ) fs
-partsOf s [] vs = tt
-partsOf s (f ∷ fs) (v, vs) = (partOf s v, partsOf s fs vs)
+abbrev pub partsOf : List ℕ → (rs : List Row) → Views rs → Parts rs
+partsOf s rs vs = each (λ r v. partOf s v) rs vs
 
 abbrev pub piecesOf : (g : Grammar) → List ℕ → Handed g → Pieces g
-piecesOf g s h = record { parts = partsOf s (g .fields) (h .views); block = blockOf s (h .block); tail = drop (h .tail) s }
+piecesOf g s h = record { parts = partsOf s (g .rows) (h .views); block = blockOf s (h .block); tail = drop (h .tail) s }
 
 -- the fields, where their bytes stand at a place
-record Stand (fs : List Field) (s : List ℕ) (at : ℕ) (ps : Each (List ℕ) fs) (rest : List ℕ) : Type 0 where
-  found : fieldsAt fs s at ≡ accepted (viewsOf fs at ps, at + length (join fs ps))
-  behind : drop (at + length (join fs ps)) s ≡ rest
-  inside : at + length (join fs ps) ≤ length s
-  parts : partsOf s fs (viewsOf fs at ps) ≡ ps
+record Stand (rs : List Row) (s : List ℕ) (at : ℕ) (ps : Parts rs) (rest : List ℕ) : Type 0 where
+  found : fieldsAt rs s at ≡ accepted (viewsOf rs at ps, at + length (join rs ps))
+  behind : drop (at + length (join rs ps)) s ≡ rest
+  inside : at + length (join rs ps) ≤ length s
+  parts : partsOf s rs (viewsOf rs at ps) ≡ ps
 
-stand : (fs : List Field) (s : List ℕ) (at : ℕ) (ps : Each (List ℕ) fs) (rest : List ℕ) → at ≤ length s → AllObey fs ps → drop at s ≡ join fs ps ++ rest → Stand fs s at ps rest
+stand : (rs : List Row) (s : List ℕ) (at : ℕ) (ps : Parts rs) (rest : List ℕ) → at ≤ length s → AllObey rs ps → drop at s ≡ join rs ps ++ rest → Stand rs s at ps rest
 unfolding fieldsAt join viewsOf
 stand [] s at ps rest h o e = record { found = rw add-zero; behind = rw add-zero e; inside = rw add-zero h; parts = refl }
-stand (f ∷ fs) s at (p, ps) rest h (o, os) e =
-    let d : drop at s ≡ fieldBytes f p ++ (join fs ps ++ rest) = e ∙ append-assoc (fieldBytes f p) (join fs ps) rest in
-    let i = stand fs s (at + length (fieldBytes f p)) ps rest (past-in f s at p _ h d) os (left-of f s at p _ d) in
-    let z : at + length (fieldBytes f p ++ join fs ps) ≡ at + length (fieldBytes f p) + length (join fs ps) = rw length-append (omega arith) in
+stand ((f, m) ∷ rs) s at (p, ps) rest h (o, os) e =
+    let d : drop at s ≡ fieldBytes f p ++ (join rs ps ++ rest) = e ∙ append-assoc (fieldBytes f p) (join rs ps) rest in
+    let i = stand rs s (at + length (fieldBytes f p)) ps rest (past-in f s at p _ h d) os (left-of f s at p _ d) in
+    let z : at + length (fieldBytes f p ++ join rs ps) ≡ at + length (fieldBytes f p) + length (join rs ps) = rw length-append (omega arith) in
     record {
       found = rw (step-of f s at p _ h o d, i .found, z);
       behind = rw z (i .behind);
       inside = rw z (i .inside);
-      parts = ap₂ (λ (x : List ℕ) (y : Each (List ℕ) fs). (x, y)) (view-of f s at p _ h d) (i .parts);
+      parts = ap₂ (λ (x : List ℕ) (y : Parts rs). (x, y)) (view-of f s at p _ h d) (i .parts);
     }
 
 -- the block or none, by what is left after the fields
@@ -74,13 +73,13 @@ last-of (some f) s at none tail bs h o d = record { found = go (step f s at) ref
 
 module _ (g : Grammar) (s : List ℕ) (b : Bytes s) where
   -- a body that splits
-  stands : (x : Pieces g) → Split g s x → Stand (g .fields) s 0 (x .parts) (blockBytes (g .block) (x .block) ++ x .tail)
-  stands x y = stand (g .fields) s 0 (x .parts) _ (omega arith) (y .obey) (y .whole)
+  stands : (x : Pieces g) → Split g s x → Stand (g .rows) s 0 (x .parts) (blockBytes (g .block) (x .block) ++ x .tail)
+  stands x y = stand (g .rows) s 0 (x .parts) _ (omega arith) (y .obey) (y .whole)
 
-  lasts : (x : Pieces g) → Split g s x → Last (g .block) s (length (join (g .fields) (x .parts))) (x .block) (x .tail)
+  lasts : (x : Pieces g) → Split g s x → Last (g .block) s (length (join (g .rows) (x .parts))) (x .block) (x .tail)
   lasts x y =
       let i = stands x y in
-      let z : 0 + length (join (g .fields) (x .parts)) ≡ length (join (g .fields) (x .parts)) = zero-add _ in
+      let z : 0 + length (join (g .rows) (x .parts)) ≡ length (join (g .rows) (x .parts)) = zero-add _ in
       last-of (g .block) s _ (x .block) (x .tail) b (rw z at (i .inside)) (y .last) (rw z at (i .behind))
 
   pub accepts : (x : Pieces g) → Split g s x → read g s ≡ accepted (handedOf g x)
@@ -100,37 +99,37 @@ module _ (g : Grammar) (s : List ℕ) (b : Bytes s) where
       sym (pieces-back x p) ∙ ap (piecesOf g s) d ∙ pieces-back y q
 
 -- a field's view, and those of the fields after it
-abbrev added : (f : Field) (fs : List Field) → View → Each View fs × ℕ → Answer (Each View (f ∷ fs) × ℕ)
-added f fs v q = accepted ((v, q .0), q .1)
+abbrev added : (w : Row) (rs : List Row) → View → Views rs × ℕ → Answer (Views (w ∷ rs) × ℕ)
+added w rs v q = accepted ((v, q .0), q .1)
 
 -- the fields that were found stand at the place
-record Have (fs : List Field) (s : List ℕ) (at : ℕ) (vs : Each View fs) (n : ℕ) : Type 0 where
-  obey : AllObey fs (partsOf s fs vs)
-  bytes : drop at s ≡ join fs (partsOf s fs vs) ++ drop n s
+record Have (rs : List Row) (s : List ℕ) (at : ℕ) (vs : Views rs) (n : ℕ) : Type 0 where
+  obey : AllObey rs (partsOf s rs vs)
+  bytes : drop at s ≡ join rs (partsOf s rs vs) ++ drop n s
   inside : n ≤ length s
 
-have-more : (f : Field) (fs : List Field) (s : List ℕ) (at : ℕ) (p : Part) (vs : Each View fs) (n : ℕ) → Found f s at p → Have fs s (p .next) vs n → Have (f ∷ fs) s at (p .view, vs) n
+have-more : (f : Field) (m : How) (rs : List Row) (s : List ℕ) (at : ℕ) (p : Part) (vs : Views rs) (n : ℕ) → Found f s at p → Have rs s (p .next) vs n → Have ((f, m) ∷ rs) s at (p .view, vs) n
 unfolding join
-have-more f fs s at p vs n w i = record {
+have-more f m rs s at p vs n w i = record {
   obey = (w .obeys, i .obey);
-  bytes = w .bytes ∙ rw (i .bytes) (sym (append-assoc (fieldBytes f (partOf s (p .view))) (join fs (partsOf s fs vs)) (drop n s)));
+  bytes = w .bytes ∙ rw (i .bytes) (sym (append-assoc (fieldBytes f (partOf s (p .view))) (join rs (partsOf s rs vs)) (drop n s)));
   inside = i .inside;
 }
 
-have : (fs : List Field) (s : List ℕ) (at : ℕ) (q : Each View fs × ℕ) → Bytes s → at ≤ length s → fieldsAt fs s at ≡ accepted q → Have fs s at (q .0) (q .1)
+have : (rs : List Row) (s : List ℕ) (at : ℕ) (q : Views rs × ℕ) → Bytes s → at ≤ length s → fieldsAt rs s at ≡ accepted q → Have rs s at (q .0) (q .1)
 unfolding fieldsAt join
 have [] s at q b h e =
     let d : _≡_ {A = Unit × ℕ} (tt, at) q = cc in
     let n : at ≡ q .1 = ap (λ (x : Unit × ℕ). x .1) d in
     record { obey = tt; bytes = rw n; inside = rw n at h }
-have (f ∷ fs) s at q b h e =
-    let t = then-accepted (step f s at) (λ p. then (fieldsAt fs s (p .next)) (added f fs (p .view))) e in
+have ((f, m) ∷ rs) s at q b h e =
+    let t = then-accepted (step f s at) (λ p. then (fieldsAt rs s (p .next)) (added (f, m) rs (p .view))) e in
     let p = t .0 in
-    let u = then-accepted (fieldsAt fs s (p .next)) (added f fs (p .view)) (t .2) in
+    let u = then-accepted (fieldsAt rs s (p .next)) (added (f, m) rs (p .view)) (t .2) in
     let w = step-back f s at b (t .1) in
-    let i = have fs s (p .next) (u .0) b (w .inside) (u .1) in
-    let d : _≡_ {A = Each View (f ∷ fs) × ℕ} ((p .view, u .0 .0), u .0 .1) q = cc (u .2) in
-    rw (← d) (have-more f fs s at p (u .0 .0) (u .0 .1) w i)
+    let i = have rs s (p .next) (u .0) b (w .inside) (u .1) in
+    let d : _≡_ {A = Views ((f, m) ∷ rs) × ℕ} ((p .view, u .0 .0), u .0 .1) q = cc (u .2) in
+    rw (← d) (have-more f m rs s at p (u .0 .0) (u .0 .1) w i)
 
 -- so does the block that was found, and where none was found none fits
 record HaveLast (b : Option Field) (s : List ℕ) (at : ℕ) (o : OptPart) : Type 0 where
@@ -151,40 +150,40 @@ have-last (some f) s at bs h = go (step f s at) refl
         rw e (record { obey = λ p rest o d. not-both (step-of f s at p rest h o d) e; bytes = refl; inside = h })
 
 -- the refusal of the first field that the bytes lack
-refuses-of : (fs : List Field) (s : List ℕ) (at : ℕ) (r : Refusal) → at ≤ length s → FirstLacks fs at (drop at s) r → fieldsAt fs s at ≡ refused r
+refuses-of : (rs : List Row) (s : List ℕ) (at : ℕ) (r : Refusal) → at ≤ length s → FirstLacks rs at (drop at s) r → fieldsAt rs s at ≡ refused r
 unfolding fieldsAt
-refuses-of (f ∷ fs) s at r h (inl l) = rw (step-lacks f s at r h l)
-refuses-of (f ∷ fs) s at r h (inr (p, rest, o, d, y)) =
-    let z : FirstLacks fs (at + length (fieldBytes f p)) (drop (at + length (fieldBytes f p)) s) r = rw (left-of f s at p rest d) y in
-    rw (step-of f s at p rest h o d, refuses-of fs s (at + length (fieldBytes f p)) r (past-in f s at p rest h d) z)
+refuses-of ((f, m) ∷ rs) s at r h (inl l) = rw (step-lacks f s at r h l)
+refuses-of ((f, m) ∷ rs) s at r h (inr (p, rest, o, d, y)) =
+    let z : FirstLacks rs (at + length (fieldBytes f p)) (drop (at + length (fieldBytes f p)) s) r = rw (left-of f s at p rest d) y in
+    rw (step-of f s at p rest h o d, refuses-of rs s (at + length (fieldBytes f p)) r (past-in f s at p rest h d) z)
 
-lacks-of : (fs : List Field) (s : List ℕ) (at : ℕ) (r : Refusal) → Bytes s → at ≤ length s → fieldsAt fs s at ≡ refused r → FirstLacks fs at (drop at s) r
+lacks-of : (rs : List Row) (s : List ℕ) (at : ℕ) (r : Refusal) → Bytes s → at ≤ length s → fieldsAt rs s at ≡ refused r → FirstLacks rs at (drop at s) r
 unfolding fieldsAt
 lacks-of [] s at r b h e = absurd (not-both refl e)
-lacks-of (f ∷ fs) s at r b h e = go (λ p i x. lacks-of fs s p r b i x) (then-refused (step f s at) (λ p. then (fieldsAt fs s (p .next)) (added f fs (p .view))) e)
+lacks-of ((f, m) ∷ rs) s at r b h e = go (λ p i x. lacks-of rs s p r b i x) (then-refused (step f s at) (λ p. then (fieldsAt rs s (p .next)) (added (f, m) rs (p .view))) e)
   where
-    more : (p : Part) → Found f s at p → FirstLacks fs (p .next) (drop (p .next) s) r → FirstLacks (f ∷ fs) at (drop at s) r
+    more : (p : Part) → Found f s at p → FirstLacks rs (p .next) (drop (p .next) s) r → FirstLacks ((f, m) ∷ rs) at (drop at s) r
     more p w y =
         let n : p .next ≡ at + length (fieldBytes f (partOf s (p .view))) = ap (λ (x : Part). x .next) (w .place) in
         inr (partOf s (p .view), drop (p .next) s, w .obeys, w .bytes, rw (← n) y)
 
-    on : ((n : ℕ) → n ≤ length s → fieldsAt fs s n ≡ refused r → FirstLacks fs n (drop n s) r) → (p : Part) → Found f s at p
-        → (fieldsAt fs s (p .next) ≡ refused r) ⊎ ((q : Each View fs × ℕ) × (fieldsAt fs s (p .next) ≡ accepted q) × (added f fs (p .view) q ≡ refused r))
-        → FirstLacks (f ∷ fs) at (drop at s) r
+    on : ((n : ℕ) → n ≤ length s → fieldsAt rs s n ≡ refused r → FirstLacks rs n (drop n s) r) → (p : Part) → Found f s at p
+        → (fieldsAt rs s (p .next) ≡ refused r) ⊎ ((q : Views rs × ℕ) × (fieldsAt rs s (p .next) ≡ accepted q) × (added (f, m) rs (p .view) q ≡ refused r))
+        → FirstLacks ((f, m) ∷ rs) at (drop at s) r
     on ih p w (inl x) = more p w (ih (p .next) (w .inside) x)
     on ih p w (inr (q, x, z)) = absurd (not-both refl z)
 
-    go : ((n : ℕ) → n ≤ length s → fieldsAt fs s n ≡ refused r → FirstLacks fs n (drop n s) r)
-        → (step f s at ≡ refused r) ⊎ ((p : Part) × (step f s at ≡ accepted p) × (then (fieldsAt fs s (p .next)) (added f fs (p .view)) ≡ refused r))
-        → FirstLacks (f ∷ fs) at (drop at s) r
+    go : ((n : ℕ) → n ≤ length s → fieldsAt rs s n ≡ refused r → FirstLacks rs n (drop n s) r)
+        → (step f s at ≡ refused r) ⊎ ((p : Part) × (step f s at ≡ accepted p) × (then (fieldsAt rs s (p .next)) (added (f, m) rs (p .view)) ≡ refused r))
+        → FirstLacks ((f, m) ∷ rs) at (drop at s) r
     go ih (inl x) = inl (lacks-back f s at r b h x)
-    go ih (inr (p, x, y)) = on ih p (step-back f s at b x) (then-refused (fieldsAt fs s (p .next)) (added f fs (p .view)) y)
+    go ih (inr (p, x, y)) = on ih p (step-back f s at b x) (then-refused (fieldsAt rs s (p .next)) (added (f, m) rs (p .view)) y)
 
 -- the views of fields and of the block lie in field order, without overlap, from a place on and before the tail
-abbrev pub InOrder : (fs : List Field) → Each View fs → OptView → ℕ → ℕ → Type 0
+abbrev pub InOrder : (rs : List Row) → Views rs → OptView → ℕ → ℕ → Type 0
 InOrder [] vs Absent from tail = from ≤ tail
 InOrder [] vs (Present v) from tail = (from ≤ v .start) × (v .start + v .len ≤ tail)
-InOrder (f ∷ fs) (v, vs) e from tail = (from ≤ v .start) × InOrder fs vs e (v .start + v .len) tail
+InOrder ((f, m) ∷ rs) (v, vs) e from tail = (from ≤ v .start) × InOrder rs vs e (v .start + v .len) tail
 
 -- views lie in order where the places of fields do
 later : (vs : Unit) (e : OptView) (from at tail : ℕ) → from ≤ at → InOrder [] vs e at tail → InOrder [] vs e from tail
@@ -195,13 +194,13 @@ ends : (f : Field) (at : ℕ) (p : List ℕ) → (at ≤ placeOf f at) × (place
 ends (fixed n) at p = (omega arith, refl)
 ends (counted w r) at p = (omega arith, rw (length-counted w r p) (omega arith))
 
-ordered : (fs : List Field) (at : ℕ) (ps : Each (List ℕ) fs) (e : OptView) (tail from : ℕ) → from ≤ at → InOrder [] tt e (at + length (join fs ps)) tail → InOrder fs (viewsOf fs at ps) e from tail
+ordered : (rs : List Row) (at : ℕ) (ps : Parts rs) (e : OptView) (tail from : ℕ) → from ≤ at → InOrder [] tt e (at + length (join rs ps)) tail → InOrder rs (viewsOf rs at ps) e from tail
 unfolding viewsOf join
 ordered [] at ps e tail from h o = later tt e from at tail h (rw add-zero at o)
-ordered (f ∷ fs) at (p, ps) e tail from h o =
+ordered ((f, m) ∷ rs) at (p, ps) e tail from h o =
     let n = ends f at p in
-    let z : at + length (fieldBytes f p ++ join fs ps) ≡ at + length (fieldBytes f p) + length (join fs ps) = rw length-append (omega arith) in
-    (omega (arith, n .0), ordered fs (at + length (fieldBytes f p)) ps e tail (placeOf f at + length p) (omega (arith, n .1)) (rw z at o))
+    let z : at + length (fieldBytes f p ++ join rs ps) ≡ at + length (fieldBytes f p) + length (join rs ps) = rw length-append (omega arith) in
+    (omega (arith, n .0), ordered rs (at + length (fieldBytes f p)) ps e tail (placeOf f at + length p) (omega (arith, n .1)) (rw z at o))
 
 last-ordered : (b : Option Field) (at : ℕ) (e : Option (List ℕ)) → InOrder [] tt (blockView b at e) at (at + length (blockBytes b e))
 last-ordered none at e = omega arith
@@ -212,39 +211,39 @@ module _ (g : Grammar) (s : List ℕ) (b : Bytes s) where
   pub splits : (h : Handed g) → read g s ≡ accepted h → Split g s (piecesOf g s h)
   unfolding read
   splits h e =
-      let t = then-accepted (fieldsAt (g .fields) s 0) (λ q. accepted (withLast g (q .0) (lastAt (g .block) s (q .1)))) e in
-      let i = have (g .fields) s 0 (t .0) b (omega arith) (t .1) in
+      let t = then-accepted (fieldsAt (g .rows) s 0) (λ q. accepted (withLast g (q .0) (lastAt (g .block) s (q .1)))) e in
+      let i = have (g .rows) s 0 (t .0) b (omega arith) (t .1) in
       let l = have-last (g .block) s (t .0 .1) b (i .inside) in
       let d : withLast g (t .0 .0) (lastAt (g .block) s (t .0 .1)) ≡ h = cc (t .2) in
-      rw (← d) (record { obey = i .obey; whole = i .bytes ∙ ap (λ (x : List ℕ). join (g .fields) (partsOf s (g .fields) (t .0 .0)) ++ x) (l .bytes); last = l .obey })
+      rw (← d) (record { obey = i .obey; whole = i .bytes ∙ ap (λ (x : List ℕ). join (g .rows) (partsOf s (g .rows) (t .0 .0)) ++ x) (l .bytes); last = l .obey })
 
   handed-back : (h : Handed g) → read g s ≡ accepted h → h ≡ handedOf g (piecesOf g s h)
   handed-back h e = let d : accepted h ≡ accepted (handedOf g (piecesOf g s h)) = sym e ∙ accepts g s b (piecesOf g s h) (splits h e) in cc
 
-  pub order : (h : Handed g) → read g s ≡ accepted h → InOrder (g .fields) (h .views) (h .block) 0 (h .tail) × (h .tail ≤ length s)
+  pub order : (h : Handed g) → read g s ≡ accepted h → InOrder (g .rows) (h .views) (h .block) 0 (h .tail) × (h .tail ≤ length s)
   order h e =
       let x = piecesOf g s h in
       let y = splits h e in
-      let at = length (join (g .fields) (x .parts)) in
+      let at = length (join (g .rows) (x .parts)) in
       let o = last-ordered (g .block) at (x .block) in
       let l : length s ≡ at + (length (blockBytes (g .block) (x .block)) + length (x .tail)) = ap length (y .whole) ∙ simp length-append in
-      rw (handed-back h e) (ordered (g .fields) 0 (x .parts) _ _ 0 (omega arith) (rw zero-add o), omega arith)
+      rw (handed-back h e) (ordered (g .rows) 0 (x .parts) _ _ 0 (omega arith) (rw zero-add o), omega arith)
 
-  pub refuses : (r : Refusal) → FirstLacks (g .fields) 0 s r → read g s ≡ refused r
+  pub refuses : (r : Refusal) → FirstLacks (g .rows) 0 s r → read g s ≡ refused r
   unfolding read
-  refuses r y = rw (refuses-of (g .fields) s 0 r (omega arith) y)
+  refuses r y = rw (refuses-of (g .rows) s 0 r (omega arith) y)
 
-  pub lacks : (r : Refusal) → read g s ≡ refused r → FirstLacks (g .fields) 0 s r
+  pub lacks : (r : Refusal) → read g s ≡ refused r → FirstLacks (g .rows) 0 s r
   unfolding read
-  lacks r e = go (then-refused (fieldsAt (g .fields) s 0) (λ q. accepted (withLast g (q .0) (lastAt (g .block) s (q .1)))) e)
+  lacks r e = go (then-refused (fieldsAt (g .rows) s 0) (λ q. accepted (withLast g (q .0) (lastAt (g .block) s (q .1)))) e)
     where
-      go : (fieldsAt (g .fields) s 0 ≡ refused r) ⊎ ((q : Each View (g .fields) × ℕ) × (fieldsAt (g .fields) s 0 ≡ accepted q) × (accepted (withLast g (q .0) (lastAt (g .block) s (q .1))) ≡ refused r)) → FirstLacks (g .fields) 0 s r
-      go (inl x) = lacks-of (g .fields) s 0 r b (omega arith) x
+      go : (fieldsAt (g .rows) s 0 ≡ refused r) ⊎ ((q : Views (g .rows) × ℕ) × (fieldsAt (g .rows) s 0 ≡ accepted q) × (accepted (withLast g (q .0) (lastAt (g .block) s (q .1))) ≡ refused r)) → FirstLacks (g .rows) 0 s r
+      go (inl x) = lacks-of (g .rows) s 0 r b (omega arith) x
       go (inr (q, x, z)) = absurd (not-both refl z)
 
-  pub whichever : ((x : Pieces g) × Split g s x) ⊎ ((r : Refusal) × FirstLacks (g .fields) 0 s r)
+  pub whichever : ((x : Pieces g) × Split g s x) ⊎ ((r : Refusal) × FirstLacks (g .rows) 0 s r)
   whichever = go (either (read g s))
     where
-      go : ((h : Handed g) × (read g s ≡ accepted h)) ⊎ ((r : Refusal) × (read g s ≡ refused r)) → ((x : Pieces g) × Split g s x) ⊎ ((r : Refusal) × FirstLacks (g .fields) 0 s r)
+      go : ((h : Handed g) × (read g s ≡ accepted h)) ⊎ ((r : Refusal) × (read g s ≡ refused r)) → ((x : Pieces g) × Split g s x) ⊎ ((r : Refusal) × FirstLacks (g .rows) 0 s r)
       go (inl (h, e)) = inl (piecesOf g s h, splits h e)
       go (inr (r, e)) = inr (r, lacks r e)

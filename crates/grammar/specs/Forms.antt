@@ -1,29 +1,21 @@
--- What is handed out of a body as a value of the code, a hello's contents. A form has its grammar, how each field is handed out, and the
--- value made of that; and a value tells what it was made of. From this, and with no reader, the pieces and the views that a value names.
-use Prim.Native.Nat.{ℕ}
-use mathlib.Core.List.{List, [], _∷_}
-use lib.ListN.{drop}
-use lib.Dec.{eqb}
-use Rattle.refusal.specs.Answers.{Answer, accepted, then}
-use Rattle.wire.specs.Numbers.{be, bytesOf}
-use Rattle.wire.specs.Parts.{pick, partOf, optPartOf}
+-- What is handed out of a body as a value of the code, a hello's contents. A form has its grammar and the value made of what each row hands
+-- out; and a value tells what it was made of. From this, and with no reader, the pieces and the views that a value names.
+use Rattle.refusal.specs.Words.{ℕ, _≤_, List, [], _∷_, true, false, drop, length, eqb, _≡_, Option, none, some}
+use Rattle.refusal.specs.Answers.{Answer, accepted, then, refused}
+use Rattle.wire.specs.Numbers.{be, bytesOf, numberAt}
+use Rattle.wire.specs.Parts.{pick, partOf, optPartOf, lookup}
 use Rattle.wire.specs.declared.view.View.{View}
 use Rattle.wire.specs.declared.view.OptView.{OptView}
 use Rattle.wire.specs.declared.view.OptView.the-variants.{Absent, Present}
-use Rattle.field.specs.Fields.{Field}
-use Rattle.grammar.specs.Grammars.{Grammar, Each, Handed}
+use Rattle.grammar.specs.Grammars.{How, asView, asOpt, asNumber, Row, Grammar, Each, each, gather, Views, Parts, Handed}
 use Rattle.grammar.specs.Splits.{Pieces, blockOf}
 use Rattle.grammar.specs.Reading.{read}
-
--- a field is handed out as a view, as a part that is absent where it is empty, or as a number of w bytes
-pub data How : Type 0 where
-  asView : How
-  asPart : How
-  asNumber : ℕ → How
+use Rattle.refusal.specs.Refusals.{refusal}
+use Rattle.refusal.specs.declared.Reason.the-variants.{Tag}
 
 abbrev pub Out : How → Type 0
 Out asView = View
-Out asPart = OptView
+Out (asOpt empty) = OptView
 Out (asNumber w) = ℕ
 
 -- document 01: "Id length 0 gives an absent id"
@@ -33,13 +25,14 @@ absentIfEmpty v = pick (eqb (v .len) 0) Absent (Present v)
 -- what is handed out of the field whose part lies at a view
 abbrev pub out : (m : How) → List ℕ → View → Out m
 out asView s v = v
-out asPart s v = absentIfEmpty v
+out (asOpt true) s v = Present v
+out (asOpt false) s v = absentIfEmpty v
 out (asNumber w) s v = be w s (v .start)
 
 -- the bytes that it names
 abbrev pub named : (m : How) → List ℕ → Out m → List ℕ
 named asView s v = partOf s v
-named asPart s o = optPartOf s o
+named (asOpt empty) s o = optPartOf s o
 named (asNumber w) s n = bytesOf w n
 
 -- the view that it is, if it is one, and those after it
@@ -49,38 +42,33 @@ ifThere (Present v) vs = v ∷ vs
 
 abbrev pub seen : (m : How) → Out m → List View → List View
 seen asView v vs = v ∷ vs
-seen asPart o vs = ifThere o vs
+seen (asOpt empty) o vs = ifThere o vs
 seen (asNumber w) n vs = vs
 
--- the same for each field
-abbrev pub Outs : (fs : List Field) → Each How fs → Type 0
-Outs [] ms = Unit
-Outs (f ∷ fs) (m, ms) = Out m × Outs fs ms
+-- the same for each row
+abbrev pub Outs : List Row → Type 0
+Outs rs = Each (λ (f, m). Out m) rs
 
-abbrev pub outs : (fs : List Field) (ms : Each How fs) → List ℕ → Each View fs → Outs fs ms
-outs [] ms s vs = tt
-outs (f ∷ fs) (m, ms) s (v, vs) = (out m s v, outs fs ms s vs)
+abbrev pub outs : (rs : List Row) → List ℕ → Views rs → Outs rs
+outs rs s vs = each (λ (f, m) v. out m s v) rs vs
 
-abbrev pub allNamed : (fs : List Field) (ms : Each How fs) → List ℕ → Outs fs ms → Each (List ℕ) fs
-allNamed [] ms s os = tt
-allNamed (f ∷ fs) (m, ms) s (o, os) = (named m s o, allNamed fs ms s os)
+abbrev pub allNamed : (rs : List Row) → List ℕ → Outs rs → Parts rs
+allNamed rs s os = each (λ (f, m) o. named m s o) rs os
 
-abbrev pub allSeen : (fs : List Field) (ms : Each How fs) → Outs fs ms → List View → List View
-allSeen [] ms os vs = vs
-allSeen (f ∷ fs) (m, ms) (o, os) vs = seen m o (allSeen fs ms os vs)
+abbrev pub allSeen : (rs : List Row) → Outs rs → List View → List View
+allSeen rs os after = gather (λ (f, m) o vs. seen m o vs) after rs os
 
 pub record Form (C : Type 0) : Type 0 where
   pub grammar : Grammar
-  pub how : Each How (grammar .fields)
-  pub value : Outs (grammar .fields) how → OptView → ℕ → C
+  pub value : Outs (grammar .rows) → OptView → ℕ → C
   -- what a value was made of
-  pub handed : C → Outs (grammar .fields) how
+  pub handed : C → Outs (grammar .rows)
   pub block : C → OptView
   pub tail : C → ℕ
 
 -- the value of what a grammar hands out of the bytes
 abbrev pub valueOf : {C : Type 0} (k : Form C) → List ℕ → Handed (k .grammar) → C
-valueOf k s h = k .value (outs (k .grammar .fields) (k .how) s (h .views)) (h .block) (h .tail)
+valueOf k s h = k .value (outs (k .grammar .rows) s (h .views)) (h .block) (h .tail)
 
 -- the answer to reading by a form
 unfoldable pub reading : {C : Type 0} → Form C → List ℕ → Answer C
@@ -88,8 +76,24 @@ reading k s = then (read (k .grammar) s) (λ h. accepted (valueOf k s h))
 
 -- the pieces of the bytes that a value names
 abbrev pub pieces : {C : Type 0} (k : Form C) → List ℕ → C → Pieces (k .grammar)
-pieces k s c = record { parts = allNamed (k .grammar .fields) (k .how) s (k .handed c); block = blockOf s (k .block c); tail = drop (k .tail c) s }
+pieces k s c = record { parts = allNamed (k .grammar .rows) s (k .handed c); block = blockOf s (k .block c); tail = drop (k .tail c) s }
 
 -- the views in it, in field order
 abbrev pub views : {C : Type 0} (k : Form C) → C → List View
-views k c = allSeen (k .grammar .fields) (k .how) (k .handed c) (ifThere (k .block c) [])
+views k c = allSeen (k .grammar .rows) (k .handed c) (ifThere (k .block c) [])
+
+-- "The ServerHello version is looked at before anything else; under 2 bytes is Incomplete", and Tag for one that is not listed: the form of
+-- each version that is
+abbrev pub Listing : Type 0 → Type 0
+Listing C = List (ℕ × Form C)
+
+abbrev pub ifListed : {C : Type 0} → Option (Form C) → List ℕ → Answer C
+ifListed (some k) s = reading k s
+ifListed none s = refused (refusal Tag 0 0)
+
+unfoldable pub byVersion : {C : Type 0} → Listing C → List ℕ → Answer C
+byVersion forms s = then (numberAt 2 s 0) (λ v. ifListed (lookup (v .value) forms) s)
+
+-- the body has a version, and it announces the form
+abbrev pub Announces : {C : Type 0} → Listing C → List ℕ → Form C → Type 0
+Announces forms body k = (2 ≤ length body) × (lookup (be 2 body 0) forms ≡ some k)

@@ -1,23 +1,47 @@
--- A grammar is data: fields in order, and an optional last block. Document 01: "Checks go in field order"; extensions are taken "if both
--- are there", length and bytes.
-use Prim.Native.Nat.{ℕ}
-use mathlib.Core.List.{List, [], _∷_}
-use mathlib.Core.Option.{Option}
+-- A grammar is data: rows in order, and an optional last block. Document 01: "Checks go in field order"; extensions are taken "if both are
+-- there", length and bytes.
+use Rattle.refusal.specs.Words.{ℕ, List, [], _∷_, Bool, Option}
 use Rattle.wire.specs.declared.view.View.{View}
 use Rattle.wire.specs.declared.view.OptView.{OptView}
 use Rattle.field.specs.Fields.{Field}
 
+-- a field is handed out as a view, as a part that may be absent (an empty one is present or not by the Bool), or as a number of w bytes
+pub data How : Type 0 where
+  asView : How
+  asOpt : Bool → How
+  asNumber : ℕ → How
+
+-- a field, and how it is handed out
+abbrev pub Row : Type 0
+Row = Field × How
+
 pub record Grammar : Type 0 where
-  pub fields : List Field
+  pub rows : List Row
   pub block : Option Field
 
--- one thing for each field
-abbrev pub Each : Type 0 → List Field → Type 0
+-- one thing for each row
+abbrev pub Each : (Row → Type 0) → List Row → Type 0
 Each A [] = Unit
-Each A (f ∷ fs) = A × Each A fs
+Each A (r ∷ rs) = A r × Each A rs
 
--- what is handed out: a view for each field, the block or none, and where the tail begins
+-- of one thing for each row, another for each
+abbrev pub each : {A B : Row → Type 0} → ((r : Row) → A r → B r) → (rs : List Row) → Each A rs → Each B rs
+each f [] xs = tt
+each f (r ∷ rs) (x, xs) = (f r x, each f rs xs)
+
+-- all of them taken together, from the last row to the first
+abbrev pub gather : {A : Row → Type 0} {X : Type 0} → ((r : Row) → A r → X → X) → X → (rs : List Row) → Each A rs → X
+gather f end [] xs = end
+gather f end (r ∷ rs) (x, xs) = f r x (gather f end rs xs)
+
+abbrev pub Views : List Row → Type 0
+Views rs = Each (λ r. View) rs
+
+abbrev pub Parts : List Row → Type 0
+Parts rs = Each (λ r. List ℕ) rs
+
+-- what is handed out: a view for each row, the block or none, and where the tail begins
 pub record Handed (g : Grammar) : Type 0 where
-  pub views : Each View (g .fields)
+  pub views : Views (g .rows)
   pub block : OptView
   pub tail : ℕ

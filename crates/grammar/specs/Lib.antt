@@ -3,6 +3,4 @@ pub mod Hellos
 pub mod Splits
 pub mod Reading
 pub mod Forms
-pub mod Versions
-pub mod Lawful
 pub mod Demand3

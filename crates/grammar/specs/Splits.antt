@@ -1,34 +1,27 @@
 -- What it is for a body to split by a grammar, or to lack a field of it, with no reader in it. Document 01, "How tightly the gauge is
 -- fixed": "a split is stated as fields that, joined in order with their lengths and the tail, are the body". Of one field the bytes, the
 -- parts it may have and its lack are in `field/specs/Standing.antt`.
-use Prim.Native.Nat.{ℕ, _+_}
-use mathlib.Core.Path.{_≡_}
-use mathlib.Core.Logic.{_⊎_}
-use mathlib.Core.List.{List, [], _∷_, _++_}
-use mathlib.Core.Option.{Option, none, some}
-use lib.ListN.{length}
+use Rattle.refusal.specs.Words.{ℕ, _+_, _≡_, _⊎_, List, [], _∷_, _++_, Option, none, some, length}
 use Rattle.refusal.specs.declared.Refusal.{Refusal}
 use Rattle.wire.specs.Parts.{partOf}
-use Rattle.wire.specs.declared.view.View.{View}
 use Rattle.wire.specs.declared.view.OptView.{OptView}
 use Rattle.wire.specs.declared.view.OptView.the-variants.{Absent, Present}
 use Rattle.field.specs.Fields.{Field}
 use Rattle.field.specs.Standing.{fieldBytes, Obeys, viewOf, NoneAt, Lacks}
-use Rattle.grammar.specs.Grammars.{Grammar, Each, Handed}
+use Rattle.grammar.specs.Grammars.{Row, Grammar, gather, Views, Parts, Handed}
 
 -- each part is one of its field
-abbrev pub AllObey : (fs : List Field) → Each (List ℕ) fs → Type 0
+abbrev pub AllObey : (rs : List Row) → Parts rs → Type 0
 AllObey [] ps = Unit
-AllObey (f ∷ fs) (p, ps) = Obeys f p × AllObey fs ps
+AllObey ((f, m) ∷ rs) (p, ps) = Obeys f p × AllObey rs ps
 
 -- the fields' bytes in order
-unfoldable pub join : (fs : List Field) → Each (List ℕ) fs → List ℕ
-join [] ps = []
-join (f ∷ fs) (p, ps) = fieldBytes f p ++ join fs ps
+unfoldable pub join : (rs : List Row) → Parts rs → List ℕ
+join rs ps = gather (λ (f, m) p after. fieldBytes f p ++ after) [] rs ps
 
--- the pieces of a body: a part for each field, the block or none, and the tail
+-- the pieces of a body: a part for each row, the block or none, and the tail
 pub record Pieces (g : Grammar) : Type 0 where
-  pub parts : Each (List ℕ) (g .fields)
+  pub parts : Parts (g .rows)
   pub block : Option (List ℕ)
   pub tail : List ℕ
 
@@ -46,14 +39,14 @@ BlockObeys (some f) (some p) tail = Obeys f p
 
 -- the body splits into the pieces
 pub record Split (g : Grammar) (body : List ℕ) (x : Pieces g) : Type 0 where
-  pub obey : AllObey (g .fields) (x .parts)
-  pub whole : body ≡ join (g .fields) (x .parts) ++ (blockBytes (g .block) (x .block) ++ x .tail)
+  pub obey : AllObey (g .rows) (x .parts)
+  pub whole : body ≡ join (g .rows) (x .parts) ++ (blockBytes (g .block) (x .block) ++ x .tail)
   pub last : BlockObeys (g .block) (x .block) (x .tail)
 
 -- the views of the parts of fields that begin at a place
-unfoldable pub viewsOf : (fs : List Field) → ℕ → Each (List ℕ) fs → Each View fs
+unfoldable pub viewsOf : (rs : List Row) → ℕ → Parts rs → Views rs
 viewsOf [] at ps = tt
-viewsOf (f ∷ fs) at (p, ps) = (viewOf f at p, viewsOf fs (at + length (fieldBytes f p)) ps)
+viewsOf ((f, m) ∷ rs) at (p, ps) = (viewOf f at p, viewsOf rs (at + length (fieldBytes f p)) ps)
 
 abbrev pub blockView : Option Field → ℕ → Option (List ℕ) → OptView
 blockView none at e = Absent
@@ -63,9 +56,9 @@ blockView (some f) at (some p) = Present (viewOf f at p)
 -- the pieces as they are handed out: each where it stands in the body
 abbrev pub handedOf : (g : Grammar) → Pieces g → Handed g
 handedOf g x = record {
-  views = viewsOf (g .fields) 0 (x .parts);
-  block = blockView (g .block) (length (join (g .fields) (x .parts))) (x .block);
-  tail = length (join (g .fields) (x .parts)) + length (blockBytes (g .block) (x .block));
+  views = viewsOf (g .rows) 0 (x .parts);
+  block = blockView (g .block) (length (join (g .rows) (x .parts))) (x .block);
+  tail = length (join (g .rows) (x .parts)) + length (blockBytes (g .block) (x .block));
 }
 
 -- the bytes of a block that was handed out
@@ -74,8 +67,8 @@ blockOf s Absent = none
 blockOf s (Present v) = some (partOf s v)
 
 -- the first field that cannot be had: those before it stand in the bytes, and it lacks
-abbrev pub FirstLacks : List Field → ℕ → List ℕ → Refusal → Type 0
+abbrev pub FirstLacks : List Row → ℕ → List ℕ → Refusal → Type 0
 FirstLacks [] at b r = ⊥
-FirstLacks (f ∷ fs) at b r =
+FirstLacks ((f, m) ∷ rs) at b r =
     Lacks f at b r
-    ⊎ ((p : List ℕ) × (rest : List ℕ) × Obeys f p × (b ≡ fieldBytes f p ++ rest) × FirstLacks fs (at + length (fieldBytes f p)) rest r)
+    ⊎ ((p : List ℕ) × (rest : List ℕ) × Obeys f p × (b ≡ fieldBytes f p ++ rest) × FirstLacks rs (at + length (fieldBytes f p)) rest r)

@@ -12,13 +12,16 @@ use Rattle.refusal.specs.Answers.{accepted}
 use Rattle.wire.specs.declared.view.View.{View}
 use Rattle.wire.specs.declared.view.OptView.{OptView}
 use Rattle.wire.specs.declared.view.OptView.the-variants.{Absent, Present}
+use Rattle.client.specs.declared.TlsClientHelloContents.{TlsClientHelloContents}
+use Rattle.server.specs.declared.tlsv12.TlsServerHelloContents.{TlsServerHelloContents}
+use Rattle.server.specs.declared.tlsv13draft18.TlsServerHelloV13Draft18Contents.{TlsServerHelloV13Draft18Contents}
 use Rattle.message.specs.declared.keyexchange.TlsClientKeyExchangeContents.{TlsClientKeyExchangeContents}
 use Rattle.message.specs.declared.keyexchange.TlsClientKeyExchangeContents.the-variants.{Dh, Ecdh, Unknown}
 use Rattle.message.specs.declared.handshake.TlsMessageHandshake.{TlsMessageHandshake}
 use Rattle.message.specs.declared.handshake.TlsMessageHandshake.the-variants.{HelloRequest, ClientHello, ServerHello, ServerHelloV13Draft18, NewSessionTicket, EndOfEarlyData, HelloRetryRequest, Certificate, ServerKeyExchange, CertificateRequest, ServerDone, CertificateVerify, ClientKeyExchange, Finished, CertificateStatus, NextProtocol, KeyUpdate}
 use Rattle.tell.specs.Messages.{messageNumbers}
 use Rattle.hear.specs.Heard.{heard, heardClient, heardServer, heardDraft18, heardExchange, heardFinished}
-use Rattle.hear.specs.Again.{HeardAgain}
+use Rattle.hear.specs.Again.{Holds, again}
 
 abbrev Back : TlsMessageHandshake → Type 0
 Back m = heard (messageNumbers m) ≡ accepted m
@@ -55,12 +58,26 @@ exchange (Dh v) = refl
 exchange (Ecdh v) = refl
 exchange (Unknown v) = refl
 
-pub heard-again : HeardAgain
+-- of each hello, by what its type holds
+client-again : (c : TlsClientHelloContents) → Holds (ClientHello c) → Back (ClientHello c)
+client-again c h = client (c .version) (c .random) (c .«session_id») (c .ciphers) (c .comp) (c .ext) (c .tail) (h .client c refl)
+
+server-again : (c : TlsServerHelloContents) → Holds (ServerHello c) → Back (ServerHello c)
+server-again c h =
+    let (v, k, m) = h .server c refl in
+    server (c .version) (c .random) (c .«session_id») (c .cipher) (c .compression) (c .ext) (c .tail) v k m
+
+draft18-again : (c : TlsServerHelloV13Draft18Contents) → Holds (ServerHelloV13Draft18 c) → Back (ServerHelloV13Draft18 c)
+draft18-again c h =
+    let (v, k) = h .draft18 c refl in
+    draft18 (c .version) (c .random) (c .cipher) (c .ext) (c .tail) v k
+
+pub heard-again : (m : TlsMessageHandshake) → Holds m → heard (messageNumbers m) ≡ again m
 unfolding heard heardFinished
 heard-again HelloRequest h = refl
-heard-again (ClientHello c) h = client (c .version) (c .random) (c .«session_id») (c .ciphers) (c .comp) (c .ext) (c .tail) h
-heard-again (ServerHello c) (h, i, j) = server (c .version) (c .random) (c .«session_id») (c .cipher) (c .compression) (c .ext) (c .tail) h i j
-heard-again (ServerHelloV13Draft18 c) (h, i) = draft18 (c .version) (c .random) (c .cipher) (c .ext) (c .tail) h i
+heard-again (ClientHello c) h = client-again c h
+heard-again (ServerHello c) h = server-again c h
+heard-again (ServerHelloV13Draft18 c) h = draft18-again c h
 heard-again (ClientKeyExchange k) h = exchange k
 heard-again (Finished v) h = refl
 heard-again (NewSessionTicket c) h = refl

@@ -1,57 +1,25 @@
 -- Hearing undoes telling: the numbers that are told of a message are heard as that message where its kind is written, and are
 -- NotYetImplemented where it is not. Shown by `proofs/Again.antt`.
-use Prim.Native.Nat.{_<_}
-use mathlib.Core.Path.{_≡_}
-use Rattle.refusal.specs.Answers.{Answer, accepted, refused}
-use Rattle.refusal.specs.Refusals.{refusal}
-use Rattle.refusal.specs.declared.Reason.the-variants.{NotYetImplemented}
+use Rattle.refusal.specs.Words.{ℕ, _<_, _≡_, Bool, _||_, eqb}
+use Rattle.refusal.specs.Answers.{Answer, accepted}
+use Rattle.wire.specs.Parts.{pick}
+use Rattle.client.specs.declared.TlsClientHelloContents.{TlsClientHelloContents}
+use Rattle.server.specs.declared.tlsv12.TlsServerHelloContents.{TlsServerHelloContents}
+use Rattle.server.specs.declared.tlsv13draft18.TlsServerHelloV13Draft18Contents.{TlsServerHelloV13Draft18Contents}
 use Rattle.message.specs.declared.handshake.TlsMessageHandshake.{TlsMessageHandshake}
-use Rattle.message.specs.declared.handshake.TlsMessageHandshake.the-variants.{HelloRequest, ClientHello, ServerHello, ServerHelloV13Draft18, NewSessionTicket, EndOfEarlyData, HelloRetryRequest, Certificate, ServerKeyExchange, CertificateRequest, ServerDone, CertificateVerify, ClientKeyExchange, Finished, CertificateStatus, NextProtocol, KeyUpdate}
+use Rattle.message.specs.declared.handshake.TlsMessageHandshake.the-variants.{ClientHello, ServerHello, ServerHelloV13Draft18}
 use Rattle.tell.specs.Messages.{messageNumbers}
-use Rattle.hear.specs.Heard.{heard}
+use Rattle.hear.specs.Heard.{at, notWritten}
 
--- what the types of the code hold: of the kinds that are written, those fields that are numbers of one or two bytes
-abbrev pub Holds : TlsMessageHandshake → Type 0
-Holds HelloRequest = Unit
-Holds (ClientHello c) = c .version < 0x10000
-Holds (ServerHello c) = (c .version < 0x10000) × (c .cipher < 0x10000) × (c .compression < 0x100)
-Holds (ServerHelloV13Draft18 c) = (c .version < 0x10000) × (c .cipher < 0x10000)
-Holds (ClientKeyExchange k) = Unit
-Holds (Finished v) = Unit
-Holds (NewSessionTicket c) = Unit
-Holds EndOfEarlyData = Unit
-Holds (HelloRetryRequest c) = Unit
-Holds (Certificate c) = Unit
-Holds (ServerKeyExchange c) = Unit
-Holds (CertificateRequest c) = Unit
-Holds (ServerDone v) = Unit
-Holds (CertificateVerify v) = Unit
-Holds (CertificateStatus c) = Unit
-Holds (NextProtocol c) = Unit
-Holds (KeyUpdate n) = Unit
+-- what the types of the code hold, of the kinds that are written: a version and a cipher have two bytes, a method one
+pub record Holds (m : TlsMessageHandshake) : Type 0 where
+  pub client : (c : TlsClientHelloContents) → m ≡ ClientHello c → c .version < 0x10000
+  pub server : (c : TlsServerHelloContents) → m ≡ ServerHello c → (c .version < 0x10000) × (c .cipher < 0x10000) × (c .compression < 0x100)
+  pub draft18 : (c : TlsServerHelloV13Draft18Contents) → m ≡ ServerHelloV13Draft18 c → (c .version < 0x10000) × (c .cipher < 0x10000)
 
-abbrev pub notWritten : Answer TlsMessageHandshake
-notWritten = refused (refusal NotYetImplemented 0 0)
+-- "Writing: HelloRequest, ClientHello, ServerHello, draft 18 ServerHello, ClientKeyExchange, Finished"
+abbrev pub isWritten : ℕ → Bool
+isWritten kind = eqb kind 0 || eqb kind 1 || eqb kind 2 || eqb kind 0x7f12 || eqb kind 16 || eqb kind 20
 
--- what is heard of the numbers of a message
 abbrev pub again : TlsMessageHandshake → Answer TlsMessageHandshake
-again HelloRequest = accepted HelloRequest
-again (ClientHello c) = accepted (ClientHello c)
-again (ServerHello c) = accepted (ServerHello c)
-again (ServerHelloV13Draft18 c) = accepted (ServerHelloV13Draft18 c)
-again (ClientKeyExchange k) = accepted (ClientKeyExchange k)
-again (Finished v) = accepted (Finished v)
-again (NewSessionTicket c) = notWritten
-again EndOfEarlyData = notWritten
-again (HelloRetryRequest c) = notWritten
-again (Certificate c) = notWritten
-again (ServerKeyExchange c) = notWritten
-again (CertificateRequest c) = notWritten
-again (ServerDone v) = notWritten
-again (CertificateVerify v) = notWritten
-again (CertificateStatus c) = notWritten
-again (NextProtocol c) = notWritten
-again (KeyUpdate n) = notWritten
-
-abbrev pub HeardAgain : Type 0
-HeardAgain = (m : TlsMessageHandshake) → Holds m → heard (messageNumbers m) ≡ again m
+again m = pick (isWritten (at (messageNumbers m) 0)) (accepted m) notWritten

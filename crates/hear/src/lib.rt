@@ -1,7 +1,10 @@
 // A message to be written, handed over as the numbers that are told of one that was read.
 ghost use mathlib.Core.Path.{_≡_};
 ghost use Rattle.message.specs.Messages.{messageSays};
-ghost use Rattle.hear.specs.Heard.{bad, heard, heardClient, heardDraft18, heardExchange, heardFinished, heardServer, optOf};
+ghost use lib.Dec.{eqb};
+ghost use Rattle.hear.specs.Heard.{bad, heard, heardClient, heardDraft18, heardExchange, heardFinished, heardServer};
+ghost use Rattle.wire.specs.Parts.{pick};
+ghost use Rattle.wire.specs.declared.view.OptView.the-variants.{Absent, Present};
 use client::TlsClientHelloContents;
 use message::handshake::MessageAnswer;
 use message::handshake::TlsMessageHandshake;
@@ -15,11 +18,11 @@ use wire::view::View;
 fn bad_numbers() -> MessageAnswer
     ensures { λ r. ⌜ messageSays r ≡ bad ⌝ }
 {
-    MessageAnswer::Refused(refusal::refuse(Reason::BadLength, 0, 0))
+    MessageAnswer::Refused(refusal::unplaced(Reason::BadLength))
 }
 
 fn opt_view(present: usize, start: usize, len: usize) -> OptView
-    ensures { λ r. ⌜ r ≡ optOf present start len ⌝ }
+    ensures { λ r. ⌜ r ≡ pick (eqb present 0) Absent (Present (record { start = start; len = len })) ⌝ }
 {
     if present == 0 {
         return OptView::Absent;
@@ -181,6 +184,6 @@ pub fn hear_message(m: &[usize]) -> MessageAnswer
         16 => hear_exchange(m),
         20 => hear_finished(m),
         0x7f12 => hear_draft18(m),
-        _ => MessageAnswer::Refused(refusal::refuse(Reason::NotYetImplemented, 0, 0)),
+        _ => MessageAnswer::Refused(refusal::unplaced(Reason::NotYetImplemented)),
     }
 }

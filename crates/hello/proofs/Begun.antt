@@ -9,9 +9,7 @@ use Rattle.refusal.specs.declared.Refusal.{Refusal}
 use Rattle.refusal.proofs.Told.{tells-all}
 use Rattle.refusal.proofs.Then.{not-both, then-accepted, then-refused}
 use Rattle.wire.specs.Numbers.{be}
-use Rattle.wire.specs.declared.view.View.{View}
-use Rattle.field.specs.Fields.{Field}
-use Rattle.grammar.specs.Grammars.{Each}
+use Rattle.grammar.specs.Grammars.{Row, Views}
 use Rattle.grammar.specs.Reading.{fieldsAt, lastAt, withLast}
 use Rattle.grammar.specs.Forms.{absentIfEmpty, valueOf, reading}
 use Rattle.grammar.proofs.Chain.{So, both, begin-on, and-all-on}
@@ -20,16 +18,16 @@ use Rattle.hello.specs.declared.Start.{Start}
 use Rattle.hello.specs.declared.StartAnswer.{StartAnswer}
 use Rattle.hello.specs.declared.StartAnswer.the-variants.{Refused, Got}
 
-abbrev pub startFields : List Field
-startFields = start .grammar .fields
+abbrev pub startRows : List Row
+startRows = start .grammar .rows
 
-abbrev startOf : List ℕ → Each View startFields × ℕ → Start
+abbrev startOf : List ℕ → Views startRows × ℕ → Start
 startOf s q = valueOf start s (withLast (start .grammar) (q .0) (lastAt (start .grammar .block) s (q .1)))
 
 -- the three fields that were found
 pub record Begun (s : List ℕ) (a : Start) : Type 0 where
-  pub q : Each View startFields × ℕ
-  pub found : fieldsAt startFields s 0 ≡ accepted q
+  pub q : Views startRows × ℕ
+  pub found : fieldsAt startRows s 0 ≡ accepted q
   pub version : be 2 s (q .0 .0 .start) ≡ a .version
   pub random : q .0 .1 .0 ≡ a .random
   pub id : absentIfEmpty (q .0 .1 .1 .0) ≡ a .«session_id»
@@ -37,7 +35,7 @@ pub record Begun (s : List ℕ) (a : Start) : Type 0 where
 
 pub begun : (s : List ℕ) {a : Start} → reading start s ≡ accepted a → Begun s a
 begun s {a} e =
-    let t = then-accepted (fieldsAt startFields s 0) (λ q. accepted (startOf s q)) (sym (begin-on start s) ∙ e) in
+    let t = then-accepted (fieldsAt startRows s 0) (λ q. accepted (startOf s q)) (sym (begin-on start s) ∙ e) in
     let d : startOf s (t .0) ≡ a = cc (t .2) in
     record {
       q = t .0;
@@ -48,20 +46,20 @@ begun s {a} e =
       next = ap (λ (x : Start). x .next) d;
     }
 
-pub not-begun : (s : List ℕ) {r : Refusal} → reading start s ≡ refused r → fieldsAt startFields s 0 ≡ refused r
-not-begun s {r} e = go (then-refused (fieldsAt startFields s 0) (λ q. accepted (startOf s q)) (sym (begin-on start s) ∙ e))
+pub not-begun : (s : List ℕ) {r : Refusal} → reading start s ≡ refused r → fieldsAt startRows s 0 ≡ refused r
+not-begun s {r} e = go (then-refused (fieldsAt startRows s 0) (λ q. accepted (startOf s q)) (sym (begin-on start s) ∙ e))
   where
-    go : (fieldsAt startFields s 0 ≡ refused r) ⊎ ((q : Each View startFields × ℕ) × (fieldsAt startFields s 0 ≡ accepted q) × (_≡_ {A = Answer Start} (accepted (startOf s q)) (refused r))) → fieldsAt startFields s 0 ≡ refused r
+    go : (fieldsAt startRows s 0 ≡ refused r) ⊎ ((q : Views startRows × ℕ) × (fieldsAt startRows s 0 ≡ accepted q) × (_≡_ {A = Answer Start} (accepted (startOf s q)) (refused r))) → fieldsAt startRows s 0 ≡ refused r
     go (inl x) = x
     go (inr (q, x, z)) = absurd (not-both refl z)
 
 -- the fields after them, from the place that was reached
-pub after-on : {X : Type 0} {whole : Answer X} {s : List ℕ} (gs : List Field) (k : Each View (startFields ++ gs) × ℕ → Answer X) → whole ≡ then (fieldsAt (startFields ++ gs) s 0) k → {a : Start} (b : Begun s a)
-    → whole ≡ then (fieldsAt gs s (a .next)) (λ t. k (both startFields gs (b .q .0) (t .0), t .1))
-after-on gs k on b = rw (← (b .next)) (and-all-on startFields gs (record { n = 0; k = k; on = on }) (b .found))
+pub after-on : {X : Type 0} {whole : Answer X} {s : List ℕ} (us : List Row) (k : Views (startRows ++ us) × ℕ → Answer X) → whole ≡ then (fieldsAt (startRows ++ us) s 0) k → {a : Start} (b : Begun s a)
+    → whole ≡ then (fieldsAt us s (a .next)) (λ t. k (both startRows us (b .q .0) (t .0), t .1))
+after-on us k on b = rw (← (b .next)) (and-all-on startRows us (record { n = 0; k = k; on = on }) (b .found))
 
-abbrev pub after : {X : Type 0} {whole : Answer X} {s : List ℕ} (gs : List Field) (k : Each View (startFields ++ gs) × ℕ → Answer X) → whole ≡ then (fieldsAt (startFields ++ gs) s 0) k → {a : Start} → Begun s a → So whole s gs
-after gs k on {a} b = record { n = a .next; k = λ t. k (both startFields gs (b .q .0) (t .0), t .1); on = after-on gs k on b }
+abbrev pub after : {X : Type 0} {whole : Answer X} {s : List ℕ} (us : List Row) (k : Views (startRows ++ us) × ℕ → Answer X) → whole ≡ then (fieldsAt (startRows ++ us) s 0) k → {a : Start} → Begun s a → So whole s us
+after us k on {a} b = record { n = a .next; k = λ t. k (both startRows us (b .q .0) (t .0), t .1); on = after-on us k on b }
 
 abbrev back : Answer Start → StartAnswer
 back (accepted a) = Got a

@@ -7,7 +7,7 @@ use mathlib.Core.List.{List}
 use native.Mathlib.Omega.{arith}
 use borrow.Author.Tests.{eqb-true}
 use lib.Dec.{eqb}
-use Rattle.refusal.specs.Answers.{accepted, refused, then}
+use Rattle.refusal.specs.Answers.{accepted, refused, giving}
 use Rattle.refusal.specs.Refusals.{refusal}
 use Rattle.refusal.specs.declared.Reason.the-variants.{Incomplete, Tag}
 use Rattle.refusal.specs.declared.Refusal.{Refusal}
@@ -16,21 +16,18 @@ use Rattle.wire.specs.Numbers.{be, numberAt}
 use Rattle.wire.specs.declared.number.Number.{Number}
 use Rattle.wire.proofs.Parts.{part-in}
 use Rattle.wire.proofs.Numbers.{number-got, number-is}
-use Rattle.grammar.specs.Forms.{reading}
-use Rattle.grammar.specs.Versions.{byVersion}
+use Rattle.grammar.specs.Forms.{reading, byVersion}
 use Rattle.grammar.proofs.Versions.{decided}
-use Rattle.server.specs.Server.{serverVersions}
-use Rattle.server.specs.Draft18.{draft18}
-use Rattle.hellos.specs.Hellos.{serverMessage}
-use Rattle.hellos.specs.Demand3.{IsDraft18, Demand3}
+use Rattle.server.specs.Server.{serverVersions, draft18}
 use Rattle.message.specs.declared.handshake.TlsMessageHandshake.the-variants.{ServerHello, ServerHelloV13Draft18}
+use Rattle.hellos.specs.Hellos.{serverMessage, IsDraft18, AsMessage}
 
-at-draft18 : (s : List ℕ) → IsDraft18 s → (serverMessage s ≡ then (reading draft18 s) (λ c. accepted (ServerHelloV13Draft18 c))) × (byVersion serverVersions s ≡ refused (refusal Tag 0 0))
+at-draft18 : (s : List ℕ) → IsDraft18 s → (serverMessage s ≡ giving (λ c. ServerHelloV13Draft18 c) (reading draft18 s)) × (byVersion serverVersions s ≡ refused (refusal Tag 0 0))
 unfolding serverMessage
 at-draft18 s (h, v) = (rw (number-got 2 s 0 (part-in Incomplete s 0 2 (omega arith)), v), decided serverVersions s h ∙ rw v)
 
 abbrev AsServer : List ℕ → Type 0
-AsServer s = serverMessage s ≡ then (byVersion serverVersions s) (λ c. accepted (ServerHello c))
+AsServer s = serverMessage s ≡ giving (λ c. ServerHello c) (byVersion serverVersions s)
 
 without : (s : List ℕ) {r : Refusal} → numberAt 2 s 0 ≡ refused r → AsServer s
 unfolding serverMessage byVersion
@@ -51,5 +48,5 @@ at-others s not = go (either (numberAt 2 s 0))
     go (inl (v, e)) = with-version s e not
     go (inr (r, e)) = without s e
 
-pub demand3 : Demand3
+pub demand3 : (body : List ℕ) → AsMessage body
 demand3 s = record { draft18Hello = at-draft18 s; serverHello = at-others s }

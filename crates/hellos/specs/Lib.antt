@@ -1,2 +1,1 @@
 pub mod Hellos
-pub mod Demand3

@@ -1,7 +1,12 @@
 // The bodies of hellos and of what asks for one, opened as messages.
 ghost use mathlib.Core.Path.{_≡_};
-ghost use Rattle.hellos.specs.Hellos.{clientMessage, helloRequestMessage, retryMessage, serverMessage};
+ghost use Rattle.body.specs.Body.{retry};
+ghost use Rattle.client.specs.Client.{client};
+ghost use Rattle.grammar.specs.Forms.{reading};
+ghost use Rattle.hellos.specs.Hellos.{serverMessage};
 ghost use Rattle.message.specs.Messages.{messageSays};
+ghost use Rattle.message.specs.declared.handshake.TlsMessageHandshake.the-variants.{ClientHello, HelloRequest, HelloRetryRequest};
+ghost use Rattle.refusal.specs.Answers.{accepted, giving};
 use body::retry::HelloRetryRequestAnswer;
 use client::ClientHelloAnswer;
 use message::handshake::MessageAnswer;
@@ -13,13 +18,13 @@ use wire::number::Width;
 
 // Any body.
 pub fn parse_tls_handshake_msg_hello_request(i: &[u8]) -> MessageAnswer
-    ensures { λ r. ⌜ messageSays r ≡ helloRequestMessage (now (i .entry)) ⌝ }
+    ensures { λ r. ⌜ messageSays r ≡ accepted HelloRequest ⌝ }
 {
     MessageAnswer::Got(TlsMessageHandshake::HelloRequest)
 }
 
 pub fn parse_tls_handshake_msg_client_hello(i: &[u8]) -> MessageAnswer
-    ensures { λ r. ⌜ messageSays r ≡ clientMessage (now (i .entry)) ⌝ }
+    ensures { λ r. ⌜ messageSays r ≡ giving (λ c. ClientHello c) (reading client (now (i .entry))) ⌝ }
 {
     match client::parse_tls_handshake_client_hello(i) {
         ClientHelloAnswer::Refused(r) => MessageAnswer::Refused(r),
@@ -52,7 +57,7 @@ pub fn parse_tls_handshake_msg_server_hello(i: &[u8]) -> MessageAnswer
 }
 
 pub fn parse_tls_handshake_msg_hello_retry_request(i: &[u8]) -> MessageAnswer
-    ensures { λ r. ⌜ messageSays r ≡ retryMessage (now (i .entry)) ⌝ }
+    ensures { λ r. ⌜ messageSays r ≡ giving (λ c. HelloRetryRequest c) (reading retry (now (i .entry))) ⌝ }
 {
     match body::retry::parse_tls_hello_retry_request(i) {
         HelloRetryRequestAnswer::Refused(r) => MessageAnswer::Refused(r),

@@ -12,8 +12,8 @@ use Rattle.wire.specs.declared.view.Part.{Part}
 use Rattle.field.specs.Fields.{Field, step}
 use Rattle.field.specs.Standing.{least}
 use Rattle.field.proofs.Rules.{step-in}
-use Rattle.list.specs.Items.{items, itemFrom, place}
-use Rattle.list.proofs.Walk.{Moves, rest, rest-all, got, none, first, go-on}
+use Rattle.list.specs.Items.{items, itemFrom, place, NoneMore}
+use Rattle.list.proofs.Walk.{Moves, rest, rest-all, fuel, got, none, first, go-on}
 
 abbrev pub left : Field → List ℕ → ℕ → List Part
 left f s at = rest (step f s) (λ (p : Part). p .next) (length s) at
@@ -38,6 +38,10 @@ item-first f one s at = first (by-steps f one s) at
 -- all items are what is left at the front
 pub all-left : (f : Field) (s : List ℕ) → items f s ≡ left f s 0
 all-left f s = rest-all (step f s) (λ (p : Part). p .next) (length s)
+
+-- any bound that is not below the bytes will do
+pub none-more : NoneMore
+none-more f one s n h = fuel (by-steps f one s) n (length s) 0 (omega arith) (omega arith)
 
 -- a walk begins with the first item, and goes on from the place handed out
 module _ (f : Field) (one : 1 ≤ least f) (s : List ℕ) where

@@ -16,7 +16,7 @@ use Rattle.field.proofs.Rules.{step-in}
 use Rattle.field.specs.Standing.{fieldBytes, least, NoneAt}
 use Rattle.field.proofs.Steps.{step-of, left-of, past-in, view-of, step-back, Found}
 use Rattle.list.specs.Items.{items}
-use Rattle.list.specs.Listing.{EachObeys, joinItems, Holds, standing, bytesHanded, ByItems, EveryList}
+use Rattle.list.specs.Listing.{EachObeys, joinItems, Holds, standing, bytesHanded, ByItems}
 use Rattle.list.proofs.Walk.{rest-on, rest-end, place-below, place-past}
 use Rattle.list.proofs.Fields.{left, by-steps, all-left, begins, goes-on}
 
@@ -96,5 +96,5 @@ module _ (f : Field) (one : 1 ≤ least f) (s : List ℕ) (b : Bytes s) where
       let d : joinItems f xs ++ r ≡ joinItems f xs ++ t = sym (x .whole) ∙ y .whole ∙ rw e in
       (e, sym (drop-at (joinItems f xs) r _ refl) ∙ ap (drop (length (joinItems f xs))) d ∙ drop-at (joinItems f xs) t _ refl)
 
-pub by-items : EveryList
+pub by-items : (f : Field) → 1 ≤ least f → (s : List ℕ) → Bytes s → ByItems f s
 by-items f one s b = record { holds = holds f one s b; hands = hands f one s b; only = only f one s b; below = λ n. place-below n (items f s); past = λ n. place-past n (items f s); begins = begins f one s; goesOn = goes-on f one s }

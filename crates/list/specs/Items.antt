@@ -1,8 +1,6 @@
 -- Lists. Document 01: "A list inside its announced length ends at the first item that does not fit; the remainder is dropped." And its
 -- table: NoSuch for "a list place at or past the count".
-use Prim.Native.Nat.{ℕ, zero, suc}
-use mathlib.Core.List.{List, [], _∷_}
-use lib.ListN.{length}
+use Rattle.refusal.specs.Words.{ℕ, zero, suc, _≤_, _≡_, List, [], _∷_, length}
 use Rattle.refusal.specs.Answers.{Answer, accepted, refused, then, orElse}
 use Rattle.refusal.specs.Refusals.{refusal}
 use Rattle.refusal.specs.declared.Reason.the-variants.{NoSuch}
@@ -10,6 +8,7 @@ use Rattle.wire.specs.Numbers.{be}
 use Rattle.wire.specs.declared.view.Part.{Part}
 use Rattle.wire.specs.declared.number.Number.{Number}
 use Rattle.field.specs.Fields.{Field, step}
+use Rattle.field.specs.Standing.{least}
 
 abbrev pub goOn : {A : Type 0} → Answer A → (A → List A) → List A
 goOn (accepted x) k = x ∷ k x
@@ -37,6 +36,10 @@ itemFrom f s at = orNoSuch (step f s at)
 -- all of them: each takes a byte at least
 abbrev pub items : Field → List ℕ → List Part
 items f s = itemsFrom (length s) (step f s) (λ p. p .next) 0
+
+-- so the bound never ends a list: by a larger one no more are found
+abbrev pub NoneMore : Type 0
+NoneMore = (f : Field) → 1 ≤ least f → (s : List ℕ) (n : ℕ) → length s ≤ n → itemsFrom n (step f s) (λ p. p .next) 0 ≡ items f s
 
 -- the number at a place of a list of numbers of w bytes, and the place past it
 abbrev pub numberPlace : ℕ → ℕ → List ℕ → Answer Number

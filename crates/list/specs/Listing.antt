@@ -1,9 +1,6 @@
 -- What the bytes of a list are, with no reader in it: the items joined in order with their lengths, then a remainder at whose front no item
 -- stands. And what is shown of the items handed out.
-use Prim.Native.Nat.{ℕ, suc, _+_, _<_, _≤_}
-use mathlib.Core.Path.{_≡_}
-use mathlib.Core.List.{List, [], _∷_, _++_, map}
-use lib.ListN.{length}
+use Rattle.refusal.specs.Words.{ℕ, suc, _+_, _<_, _≤_, _≡_, List, [], _∷_, _++_, map, length}
 use Rattle.refusal.specs.Answers.{accepted, refused}
 use Rattle.refusal.specs.Refusals.{refusal}
 use Rattle.refusal.specs.declared.Reason.the-variants.{NoSuch}
@@ -51,7 +48,3 @@ pub record ByItems (f : Field) (s : List ℕ) : Type 0 where
   -- a walk from the front, each time from the place handed out, meets every item in order and then NoSuch
   pub begins : place 0 (items f s) ≡ itemFrom f s 0
   pub goesOn : (n : ℕ) (p : Part) → place n (items f s) ≡ accepted p → place (suc n) (items f s) ≡ itemFrom f s (p .next)
-
--- the theorem: every element of at least a byte, every list of bytes; shown by `proofs/Listed.antt`
-abbrev pub EveryList : Type 0
-EveryList = (f : Field) → 1 ≤ least f → (s : List ℕ) → Bytes s → ByItems f s

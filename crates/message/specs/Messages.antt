@@ -1,6 +1,6 @@
 -- The answer of a reader of messages, and where what a message's reader leaves over begins. Document 01: "What a body parser leaves over is
 -- dropped"; the crate hands it out, so it is told.
-use Prim.Native.Nat.{ℕ, _+_}
+use Rattle.refusal.specs.Words.{ℕ, _+_}
 use Rattle.refusal.specs.Answers.{Answer, accepted, refused}
 use Rattle.wire.specs.declared.view.View.{View}
 use Rattle.message.specs.declared.keyexchange.TlsClientKeyExchangeContents.{TlsClientKeyExchangeContents}

@@ -3,13 +3,13 @@
 use Prim.Native.Nat.{ℕ, _+_, _<_, _≤_}
 use mathlib.Core.Path.{_≡_, refl, sym, ap, _∙_}
 use mathlib.Core.Bool.{Bool, true, false}
-use mathlib.Core.List.{List, _∷_, _++_}
+use mathlib.Core.List.{List, [], _∷_, _++_}
 use native.Mathlib.Omega.{arith}
 use native.Mathlib.Nat.{zero-add}
 use borrow.Author.Tests.{leb-true, leb-false}
 use lib.ListN.{length, length-append}
 use lib.Dec.{leb}
-use Rattle.refusal.specs.Answers.{Answer, accepted, refused, then, numberIn}
+use Rattle.refusal.specs.Answers.{Answer, accepted, refused, then, numberIn, giving}
 use Rattle.refusal.specs.Refusals.{numberOf}
 use Rattle.refusal.specs.declared.Refusal.{Refusal}
 use Rattle.refusal.proofs.Then.{not-both, then-accepted}
@@ -18,36 +18,51 @@ use Rattle.wire.proofs.Puts.{text-refused, length-put}
 use Rattle.text.proofs.Messages.{put-before}
 use Rattle.list.specs.Items.{orNoSuch}
 use Rattle.message.specs.declared.handshake.TlsMessageHandshake.{TlsMessageHandshake}
-use Rattle.envelope.specs.Heads.{headAt}
-use Rattle.envelope.specs.Opening.{Met, metAt, message}
+use Rattle.envelope.specs.Opening.{headAt, Met, metAt, message}
 use Rattle.envelope.specs.declared.TlsMessageHead.{TlsMessageHead}
 use Rattle.envelope.proofs.Heads.{met-head}
+use Rattle.grammar.specs.Forms.{reading}
+use Rattle.record.specs.Records.{raw, encrypted}
+use Rattle.record.specs.declared.TlsRawRecord.{TlsRawRecord}
+use Rattle.record.specs.declared.TlsEncrypted.{TlsEncrypted}
 use Rattle.walk.specs.Walks.{nextMessage, onTo, moved}
 use Rattle.walk.specs.declared.TlsRecordWalk.{TlsRecordWalk}
-use Rattle.tell.specs.Messages.{messageNumbers, partNumbers, told}
+use Rattle.tell.specs.Messages.{messageNumbers, partNumbers}
 use Rattle.array.proofs.Tells.{Tells, in-room, no-room}
 use Rattle.hear.specs.Heard.{heard}
 use Rattle.genmessage.specs.Messages.{handshakeText}
-use Rattle.norrabist_c.specs.Told.{answered, countOr, metNumbers, nextNumbers, handedText}
+use Rattle.norrabist_c.specs.Told.{answered, countOr, headerNumbers, rawNumbers, metNumbers, handedText}
 
 -- what an export answers of what is told, and what it leaves
 abbrev pub Exported : Answer (List ℕ) → List ℕ → ℕ → List ℕ → Type 0
 Exported t d n d′ = (n ≡ answered t d) × (d′ ≡ written t 0 d)
 
--- what is told are these numbers
-pub as-told : {t : Answer (List ℕ)} {ns : List ℕ} (d : List ℕ) {n : ℕ} {d′ : List ℕ} → t ≡ accepted ns → Exported (accepted ns) d n d′ → Exported t d n d′
+-- what is told is this
+pub as-told : {t u : Answer (List ℕ)} (d : List ℕ) {n : ℕ} {d′ : List ℕ} → t ≡ u → Exported u d n d′ → Exported t d n d′
 as-told d e x = rw e x
 
 module _ {A : Type 0} (f : A → List ℕ) (d : List ℕ) {a : Answer A} {n : ℕ} where
   -- a refusal is handed on, and the array is as lent
-  pub none-told : {r : Refusal} → a ≡ refused r → n ≡ numberOf (r .reason) → Exported (told f a) d n d
+  pub none-told : {r : Refusal} → a ≡ refused r → n ≡ numberOf (r .reason) → Exported (giving f a) d n d
   none-told {r} e q =
-      let o = text-refused {t = told f a} 0 d {r = r} (rw e) in
+      let o = text-refused {t = giving f a} 0 d {r = r} (rw e) in
       (q ∙ sym (ap numberIn (o .says)), sym (o .leaves))
 
   -- the numbers of a value are put in, or there is no room for them
-  pub all-told : {v : A} {d′ : List ℕ} → a ≡ accepted v → Exported (accepted (f v)) d n d′ → Exported (told f a) d n d′
+  pub all-told : {v : A} {d′ : List ℕ} → a ≡ accepted v → Exported (accepted (f v)) d n d′ → Exported (giving f a) d n d′
   all-told e x = as-told d (rw e) x
+
+-- an encrypted record is told as the raw one that it is
+abbrev pub encryptedNumbers : TlsEncrypted → List ℕ
+encryptedNumbers x = headerNumbers (x .hdr) ++ (partNumbers (x .msg .blob) ++ (x .next ∷ []))
+
+pub as-raw : (s : List ℕ) → giving rawNumbers (reading raw s) ≡ giving encryptedNumbers (encrypted s)
+unfolding encrypted
+as-raw s = go (reading raw s)
+  where
+    go : (a : Answer TlsRawRecord) → giving rawNumbers a ≡ giving encryptedNumbers (then a (λ r. accepted (record { hdr = r .hdr; msg = record { blob = r .«data» }; next = r .next })))
+    go (accepted r) = refl
+    go (refused r) = refl
 
 module _ (xs ns d : List ℕ) {m : ℕ} {e : List ℕ} (t : Tells ns (length xs) d m e) where
   -- no room for the others is none for all
@@ -86,7 +101,7 @@ not-met (refused y) {r} e = let d : _≡_ {A = Answer TlsMessageHandshake} (refu
 same-met : {x : Met} {h : TlsMessageHead} {m : TlsMessageHandshake} → h ≡ x .head → m ≡ x .says → x ≡ record { head = h; says = m }
 same-met i j = rw (i, j)
 
-next-is : (a : Answer Met) (w : TlsRecordWalk) {v : TlsRecordWalk} {m : TlsMessageHandshake} → then (orNoSuch a) (λ x. accepted (x .says)) ≡ accepted m → v ≡ onTo w a → told metNumbers (orNoSuch a) ≡ accepted (partNumbers (v .body) ++ (v .next ∷ messageNumbers m))
+next-is : (a : Answer Met) (w : TlsRecordWalk) {v : TlsRecordWalk} {m : TlsMessageHandshake} → then (orNoSuch a) (λ x. accepted (x .says)) ≡ accepted m → v ≡ onTo w a → giving metNumbers (orNoSuch a) ≡ accepted (partNumbers (v .body) ++ (v .next ∷ messageNumbers m))
 next-is (accepted x) w {v} {m} e o = let j : m ≡ x .says = cc e in rw (o, j)
 next-is (refused r) w e o = absurd (not-both e refl)
 
@@ -111,7 +126,7 @@ module _ (s : List ℕ) where
     unfolding nextMessage
     next-not e = not-met (orNoSuch (metAt s (w .next))) e
 
-    pub next-told : {v : TlsRecordWalk} {m : TlsMessageHandshake} → nextMessage s w ≡ accepted m → v ≡ moved s w → nextNumbers s (w .next) ≡ accepted (partNumbers (v .body) ++ (v .next ∷ messageNumbers m))
+    pub next-told : {v : TlsRecordWalk} {m : TlsMessageHandshake} → nextMessage s w ≡ accepted m → v ≡ moved s w → giving metNumbers (orNoSuch (metAt s (w .next))) ≡ accepted (partNumbers (v .body) ++ (v .next ∷ messageNumbers m))
     unfolding nextMessage moved
     next-told e o = next-is (metAt s (w .next)) w e o
 

@@ -1,17 +1,14 @@
 -- What an export answers. The numbers of a value are put into the lent array as a text is into an output (`wire/specs/Puts.antt`): the
 -- answer is the paper's number, 0 where all of them are in; a refusal, NoRoom among them, changes nothing.
-use Prim.Native.Nat.{ℕ}
-use mathlib.Core.List.{List, [], _∷_, _++_}
+use Rattle.refusal.specs.Words.{ℕ, List, [], _∷_, _++_}
 use Rattle.refusal.specs.Answers.{Answer, accepted, refused, then, numberIn}
 use Rattle.wire.specs.Puts.{room}
-use Rattle.list.specs.Items.{orNoSuch}
-use Rattle.envelope.specs.Opening.{Met, metAt}
+use Rattle.envelope.specs.Opening.{Met}
 use Rattle.record.specs.declared.TlsRecordHeader.{TlsRecordHeader}
 use Rattle.record.specs.declared.TlsRawRecord.{TlsRawRecord}
-use Rattle.record.specs.declared.TlsEncrypted.{TlsEncrypted}
 use Rattle.plaintext.specs.declared.TlsPlaintext.{TlsPlaintext}
 use Rattle.plaintext.specs.declared.TlsPlaintextOpened.{TlsPlaintextOpened}
-use Rattle.tell.specs.Messages.{messageNumbers, partNumbers, told}
+use Rattle.tell.specs.Messages.{messageNumbers, partNumbers}
 use Rattle.hear.specs.Heard.{heard}
 use Rattle.genmessage.specs.Messages.{handshakeText}
 
@@ -27,11 +24,9 @@ countOr n (refused r) = n
 abbrev pub headerNumbers : TlsRecordHeader → List ℕ
 headerNumbers h = h .«record_type» ∷ h .version ∷ h .len ∷ []
 
+-- of an encrypted record too
 abbrev pub rawNumbers : TlsRawRecord → List ℕ
 rawNumbers x = headerNumbers (x .hdr) ++ (partNumbers (x .«data») ++ (x .next ∷ []))
-
-abbrev pub encryptedNumbers : TlsEncrypted → List ℕ
-encryptedNumbers x = headerNumbers (x .hdr) ++ (partNumbers (x .msg .blob) ++ (x .next ∷ []))
 
 abbrev pub plaintextNumbers : TlsPlaintext → List ℕ
 plaintextNumbers x = headerNumbers (x .hdr) ++ (partNumbers (x .msg) ++ (x .count ∷ x .dropped ∷ x .next ∷ []))
@@ -43,10 +38,6 @@ metNumbers x = partNumbers (x .head .body) ++ (x .head .next ∷ messageNumbers 
 -- a record and its first message
 abbrev pub openedNumbers : TlsPlaintextOpened → List ℕ
 openedNumbers x = plaintextNumbers (x .«record») ++ metNumbers (record { head = x .head; says = x .message })
-
--- the next message of a walk, NoSuch past the last
-abbrev pub nextNumbers : List ℕ → ℕ → Answer (List ℕ)
-nextNumbers s at = told metNumbers (orNoSuch (metAt s at))
 
 -- what is written of a message handed over as numbers
 abbrev pub handedText : List ℕ → List ℕ → Answer (List ℕ)

@@ -1,15 +1,14 @@
 // The bodies that the crate opens by themselves too, told as the message that they are.
 ghost use mathlib.Core.Path.{_≡_};
-ghost use Rattle.body.specs.NextProtocol.{nextProtocol};
-ghost use Rattle.certs.specs.Request.{certificateRequest};
-ghost use Rattle.certs.specs.Status.{status};
+ghost use Rattle.refusal.specs.Answers.{giving};
+ghost use Rattle.body.specs.Body.{nextProtocol};
+ghost use Rattle.certs.specs.Certs.{certificateRequest, status};
 ghost use Rattle.client.specs.Client.{client};
-ghost use Rattle.grammar.specs.Forms.{reading};
-ghost use Rattle.grammar.specs.Versions.{byVersion};
+ghost use Rattle.grammar.specs.Forms.{reading, byVersion};
 ghost use Rattle.message.specs.declared.handshake.TlsMessageHandshake.the-variants.{CertificateRequest, CertificateStatus, ClientHello, NextProtocol, ServerHello};
 ghost use Rattle.norrabist_c.specs.Told.{answered};
 ghost use Rattle.server.specs.Server.{serverVersions};
-ghost use Rattle.tell.specs.Messages.{messageNumbers, told};
+ghost use Rattle.tell.specs.Messages.{messageNumbers};
 ghost use Rattle.wire.specs.Puts.{written};
 use body::next_protocol::NextProtocolAnswer;
 use certs::request::CertificateRequestAnswer;
@@ -20,8 +19,8 @@ use server::tlsv12::ServerHelloAnswer;
 
 #[no_mangle]
 pub extern "C" fn norrabist_parse_tls_handshake_client_hello(i: &[u8], out: &mut [usize]) -> u8
-    ensures { λ r. ⌜ r ≡ answered (told (λ c. messageNumbers (ClientHello c)) (reading client (now (i .entry)))) (now (out .entry)) ⌝ }
-    ensures { λ _. ⌜ now (out .exit) ≡ written (told (λ c. messageNumbers (ClientHello c)) (reading client (now (i .entry)))) 0 (now (out .entry)) ⌝ }
+    ensures { λ r. ⌜ r ≡ answered (giving (λ c. messageNumbers (ClientHello c)) (reading client (now (i .entry)))) (now (out .entry)) ⌝ }
+    ensures { λ _. ⌜ now (out .exit) ≡ written (giving (λ c. messageNumbers (ClientHello c)) (reading client (now (i .entry)))) 0 (now (out .entry)) ⌝ }
 {
     match client::parse_tls_handshake_client_hello(i) {
         ClientHelloAnswer::Refused(r) => refusal::refusal_number(r),
@@ -36,8 +35,8 @@ pub extern "C" fn norrabist_parse_tls_handshake_client_hello(i: &[u8], out: &mut
 // The draft 18 hello is Tag here.
 #[no_mangle]
 pub extern "C" fn norrabist_parse_tls_handshake_server_hello(i: &[u8], out: &mut [usize]) -> u8
-    ensures { λ r. ⌜ r ≡ answered (told (λ c. messageNumbers (ServerHello c)) (byVersion serverVersions (now (i .entry)))) (now (out .entry)) ⌝ }
-    ensures { λ _. ⌜ now (out .exit) ≡ written (told (λ c. messageNumbers (ServerHello c)) (byVersion serverVersions (now (i .entry)))) 0 (now (out .entry)) ⌝ }
+    ensures { λ r. ⌜ r ≡ answered (giving (λ c. messageNumbers (ServerHello c)) (byVersion serverVersions (now (i .entry)))) (now (out .entry)) ⌝ }
+    ensures { λ _. ⌜ now (out .exit) ≡ written (giving (λ c. messageNumbers (ServerHello c)) (byVersion serverVersions (now (i .entry)))) 0 (now (out .entry)) ⌝ }
 {
     match server::tlsv12::parse_tls_handshake_server_hello(i) {
         ServerHelloAnswer::Refused(r) => refusal::refusal_number(r),
@@ -54,8 +53,8 @@ pub extern "C" fn norrabist_parse_tls_handshake_certificaterequest(
     i: &[u8],
     out: &mut [usize],
 ) -> u8
-    ensures { λ r. ⌜ r ≡ answered (told (λ c. messageNumbers (CertificateRequest c)) (certificateRequest (now (i .entry)))) (now (out .entry)) ⌝ }
-    ensures { λ _. ⌜ now (out .exit) ≡ written (told (λ c. messageNumbers (CertificateRequest c)) (certificateRequest (now (i .entry)))) 0 (now (out .entry)) ⌝ }
+    ensures { λ r. ⌜ r ≡ answered (giving (λ c. messageNumbers (CertificateRequest c)) (certificateRequest (now (i .entry)))) (now (out .entry)) ⌝ }
+    ensures { λ _. ⌜ now (out .exit) ≡ written (giving (λ c. messageNumbers (CertificateRequest c)) (certificateRequest (now (i .entry)))) 0 (now (out .entry)) ⌝ }
 {
     match certs::request::parse_tls_handshake_certificaterequest(i) {
         CertificateRequestAnswer::Refused(r) => refusal::refusal_number(r),
@@ -69,8 +68,8 @@ pub extern "C" fn norrabist_parse_tls_handshake_certificaterequest(
 
 #[no_mangle]
 pub extern "C" fn norrabist_parse_tls_handshake_certificatestatus(i: &[u8], out: &mut [usize]) -> u8
-    ensures { λ r. ⌜ r ≡ answered (told (λ c. messageNumbers (CertificateStatus c)) (reading status (now (i .entry)))) (now (out .entry)) ⌝ }
-    ensures { λ _. ⌜ now (out .exit) ≡ written (told (λ c. messageNumbers (CertificateStatus c)) (reading status (now (i .entry)))) 0 (now (out .entry)) ⌝ }
+    ensures { λ r. ⌜ r ≡ answered (giving (λ c. messageNumbers (CertificateStatus c)) (reading status (now (i .entry)))) (now (out .entry)) ⌝ }
+    ensures { λ _. ⌜ now (out .exit) ≡ written (giving (λ c. messageNumbers (CertificateStatus c)) (reading status (now (i .entry)))) 0 (now (out .entry)) ⌝ }
 {
     match certs::status::parse_tls_handshake_certificatestatus(i) {
         CertificateStatusAnswer::Refused(r) => refusal::refusal_number(r),
@@ -84,8 +83,8 @@ pub extern "C" fn norrabist_parse_tls_handshake_certificatestatus(i: &[u8], out:
 
 #[no_mangle]
 pub extern "C" fn norrabist_parse_tls_handshake_next_protocol(i: &[u8], out: &mut [usize]) -> u8
-    ensures { λ r. ⌜ r ≡ answered (told (λ c. messageNumbers (NextProtocol c)) (reading nextProtocol (now (i .entry)))) (now (out .entry)) ⌝ }
-    ensures { λ _. ⌜ now (out .exit) ≡ written (told (λ c. messageNumbers (NextProtocol c)) (reading nextProtocol (now (i .entry)))) 0 (now (out .entry)) ⌝ }
+    ensures { λ r. ⌜ r ≡ answered (giving (λ c. messageNumbers (NextProtocol c)) (reading nextProtocol (now (i .entry)))) (now (out .entry)) ⌝ }
+    ensures { λ _. ⌜ now (out .exit) ≡ written (giving (λ c. messageNumbers (NextProtocol c)) (reading nextProtocol (now (i .entry)))) 0 (now (out .entry)) ⌝ }
 {
     match body::next_protocol::parse_tls_handshake_next_protocol(i) {
         NextProtocolAnswer::Refused(r) => refusal::refusal_number(r),

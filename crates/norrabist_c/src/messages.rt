@@ -2,9 +2,10 @@
 ghost use mathlib.Core.List.{_∷_};
 ghost use mathlib.Core.Path.{_≡_};
 ghost use Rattle.envelope.specs.Opening.{metAt, opened};
-ghost use Rattle.norrabist_c.specs.Told.{answered, metNumbers, nextNumbers};
-ghost use Rattle.refusal.specs.Answers.{Answer};
-ghost use Rattle.tell.specs.Messages.{messageNumbers, told};
+ghost use Rattle.list.specs.Items.{orNoSuch};
+ghost use Rattle.norrabist_c.specs.Told.{answered, metNumbers};
+ghost use Rattle.refusal.specs.Answers.{Answer, giving};
+ghost use Rattle.tell.specs.Messages.{messageNumbers};
 ghost use Rattle.wire.specs.Puts.{written};
 use envelope::HeadAnswer;
 use message::handshake::MessageAnswer;
@@ -28,8 +29,8 @@ fn tell_met(body: View, next: usize, m: TlsMessageHandshake, out: &mut [usize]) 
 // Where the body lies, where the next message begins, and the message, its parts within the body.
 #[no_mangle]
 pub extern "C" fn norrabist_parse_tls_message_handshake(i: &[u8], out: &mut [usize]) -> u8
-    ensures { λ r. ⌜ r ≡ answered (told metNumbers (metAt (now (i .entry)) 0)) (now (out .entry)) ⌝ }
-    ensures { λ _. ⌜ now (out .exit) ≡ written (told metNumbers (metAt (now (i .entry)) 0)) 0 (now (out .entry)) ⌝ }
+    ensures { λ r. ⌜ r ≡ answered (giving metNumbers (metAt (now (i .entry)) 0)) (now (out .entry)) ⌝ }
+    ensures { λ _. ⌜ now (out .exit) ≡ written (giving metNumbers (metAt (now (i .entry)) 0)) 0 (now (out .entry)) ⌝ }
 {
     let head = match envelope::parse_tls_message_head(i, 0) {
         HeadAnswer::Refused(r) => {
@@ -47,8 +48,8 @@ pub extern "C" fn norrabist_parse_tls_message_handshake(i: &[u8], out: &mut [usi
 // The same of the message that begins at `at` in a record's content; NoSuch past the last.
 #[no_mangle]
 pub extern "C" fn norrabist_record_walk_next(s: &[u8], at: usize, out: &mut [usize]) -> u8
-    ensures { λ r. ⌜ r ≡ answered (nextNumbers (now (s .entry)) at) (now (out .entry)) ⌝ }
-    ensures { λ _. ⌜ now (out .exit) ≡ written (nextNumbers (now (s .entry)) at) 0 (now (out .entry)) ⌝ }
+    ensures { λ r. ⌜ r ≡ answered (giving metNumbers (orNoSuch (metAt (now (s .entry)) at))) (now (out .entry)) ⌝ }
+    ensures { λ _. ⌜ now (out .exit) ≡ written (giving metNumbers (orNoSuch (metAt (now (s .entry)) at))) 0 (now (out .entry)) ⌝ }
 {
     let walk = TlsRecordWalk {
         body: View { start: 0, len: 0 },
@@ -72,8 +73,8 @@ pub extern "C" fn norrabist_parse_tls_handshake_msg(
     len: usize,
     out: &mut [usize],
 ) -> u8
-    ensures { λ r. ⌜ r ≡ answered (told messageNumbers (opened kind len (now (i .entry)))) (now (out .entry)) ⌝ }
-    ensures { λ _. ⌜ now (out .exit) ≡ written (told messageNumbers (opened kind len (now (i .entry)))) 0 (now (out .entry)) ⌝ }
+    ensures { λ r. ⌜ r ≡ answered (giving messageNumbers (opened kind len (now (i .entry)))) (now (out .entry)) ⌝ }
+    ensures { λ _. ⌜ now (out .exit) ≡ written (giving messageNumbers (opened kind len (now (i .entry)))) 0 (now (out .entry)) ⌝ }
 {
     match envelope::parse_tls_handshake_msg(kind, i, len) {
         MessageAnswer::Refused(r) => refusal::refusal_number(r),

@@ -1,11 +1,10 @@
 // Records, told by their fields in order.
 ghost use mathlib.Core.Path.{_≡_};
 ghost use Rattle.grammar.specs.Forms.{reading};
-ghost use Rattle.norrabist_c.specs.Told.{answered, encryptedNumbers, headerNumbers, openedNumbers, plaintextNumbers, rawNumbers};
+ghost use Rattle.norrabist_c.specs.Told.{answered, headerNumbers, openedNumbers, plaintextNumbers, rawNumbers};
 ghost use Rattle.plaintext.specs.Plaintext.{openedFirst, plaintext};
-ghost use Rattle.refusal.specs.Answers.{Answer};
-ghost use Rattle.record.specs.Records.{encrypted, header, raw};
-ghost use Rattle.tell.specs.Messages.{told};
+ghost use Rattle.refusal.specs.Answers.{Answer, giving};
+ghost use Rattle.record.specs.Records.{header, raw};
 ghost use Rattle.wire.specs.Puts.{written};
 use plaintext::OpenedAnswer;
 use plaintext::PlaintextAnswer;
@@ -17,8 +16,8 @@ use record::RecordHeaderAnswer;
 // Type, version, length; what follows begins at byte 5.
 #[no_mangle]
 pub extern "C" fn norrabist_parse_tls_record_header(i: &[u8], out: &mut [usize]) -> u8
-    ensures { λ r. ⌜ r ≡ answered (told headerNumbers (header (now (i .entry)))) (now (out .entry)) ⌝ }
-    ensures { λ _. ⌜ now (out .exit) ≡ written (told headerNumbers (header (now (i .entry)))) 0 (now (out .entry)) ⌝ }
+    ensures { λ r. ⌜ r ≡ answered (giving headerNumbers (header (now (i .entry)))) (now (out .entry)) ⌝ }
+    ensures { λ _. ⌜ now (out .exit) ≡ written (giving headerNumbers (header (now (i .entry)))) 0 (now (out .entry)) ⌝ }
 {
     match record::parse_tls_record_header(i) {
         RecordHeaderAnswer::Refused(r) => refusal::refusal_number(r),
@@ -32,8 +31,8 @@ pub extern "C" fn norrabist_parse_tls_record_header(i: &[u8], out: &mut [usize])
 // Type, version, length, the content, and where the next record begins.
 #[no_mangle]
 pub extern "C" fn norrabist_parse_tls_raw_record(i: &[u8], out: &mut [usize]) -> u8
-    ensures { λ r. ⌜ r ≡ answered (told rawNumbers (reading raw (now (i .entry)))) (now (out .entry)) ⌝ }
-    ensures { λ _. ⌜ now (out .exit) ≡ written (told rawNumbers (reading raw (now (i .entry)))) 0 (now (out .entry)) ⌝ }
+    ensures { λ r. ⌜ r ≡ answered (giving rawNumbers (reading raw (now (i .entry)))) (now (out .entry)) ⌝ }
+    ensures { λ _. ⌜ now (out .exit) ≡ written (giving rawNumbers (reading raw (now (i .entry)))) 0 (now (out .entry)) ⌝ }
 {
     match record::parse_tls_raw_record(i) {
         RawRecordAnswer::Refused(r) => refusal::refusal_number(r),
@@ -56,8 +55,8 @@ pub extern "C" fn norrabist_parse_tls_raw_record(i: &[u8], out: &mut [usize]) ->
 // The same, of content that is not to be opened.
 #[no_mangle]
 pub extern "C" fn norrabist_parse_tls_encrypted(i: &[u8], out: &mut [usize]) -> u8
-    ensures { λ r. ⌜ r ≡ answered (told encryptedNumbers (encrypted (now (i .entry)))) (now (out .entry)) ⌝ }
-    ensures { λ _. ⌜ now (out .exit) ≡ written (told encryptedNumbers (encrypted (now (i .entry)))) 0 (now (out .entry)) ⌝ }
+    ensures { λ r. ⌜ r ≡ answered (giving rawNumbers (reading raw (now (i .entry)))) (now (out .entry)) ⌝ }
+    ensures { λ _. ⌜ now (out .exit) ≡ written (giving rawNumbers (reading raw (now (i .entry)))) 0 (now (out .entry)) ⌝ }
 {
     match record::parse_tls_encrypted(i) {
         EncryptedAnswer::Refused(r) => refusal::refusal_number(r),
@@ -81,8 +80,8 @@ pub extern "C" fn norrabist_parse_tls_encrypted(i: &[u8], out: &mut [usize]) -> 
 // Type, version, length, the content, how many messages it has, how many bytes at its end hold none, and where the next record begins.
 #[no_mangle]
 pub extern "C" fn norrabist_parse_tls_plaintext(i: &[u8], out: &mut [usize]) -> u8
-    ensures { λ r. ⌜ r ≡ answered (told plaintextNumbers (plaintext (now (i .entry)))) (now (out .entry)) ⌝ }
-    ensures { λ _. ⌜ now (out .exit) ≡ written (told plaintextNumbers (plaintext (now (i .entry)))) 0 (now (out .entry)) ⌝ }
+    ensures { λ r. ⌜ r ≡ answered (giving plaintextNumbers (plaintext (now (i .entry)))) (now (out .entry)) ⌝ }
+    ensures { λ _. ⌜ now (out .exit) ≡ written (giving plaintextNumbers (plaintext (now (i .entry)))) 0 (now (out .entry)) ⌝ }
 {
     match plaintext::parse_tls_plaintext(i) {
         PlaintextAnswer::Refused(r) => refusal::refusal_number(r),
@@ -139,8 +138,8 @@ fn tell_opened(x: TlsPlaintextOpened, out: &mut [usize]) -> u8
 // within the body.
 #[no_mangle]
 pub extern "C" fn norrabist_open_tls_plaintext(i: &[u8], out: &mut [usize]) -> u8
-    ensures { λ r. ⌜ r ≡ answered (told openedNumbers (openedFirst (now (i .entry)))) (now (out .entry)) ⌝ }
-    ensures { λ _. ⌜ now (out .exit) ≡ written (told openedNumbers (openedFirst (now (i .entry)))) 0 (now (out .entry)) ⌝ }
+    ensures { λ r. ⌜ r ≡ answered (giving openedNumbers (openedFirst (now (i .entry)))) (now (out .entry)) ⌝ }
+    ensures { λ _. ⌜ now (out .exit) ≡ written (giving openedNumbers (openedFirst (now (i .entry)))) 0 (now (out .entry)) ⌝ }
 {
     match plaintext::open_tls_plaintext(i) {
         OpenedAnswer::Refused(r) => refusal::refusal_number(r),

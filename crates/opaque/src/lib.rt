@@ -1,7 +1,9 @@
 // The bodies that are handed out whole, opened as messages: each is the first `len` bytes.
 ghost use mathlib.Core.Path.{_≡_};
 ghost use Rattle.message.specs.Messages.{messageSays};
-ghost use Rattle.opaque.specs.Whole.{certificateVerifyMessage, clientKeyExchangeMessage, finishedMessage, serverDoneMessage, serverKeyExchangeMessage};
+ghost use Rattle.message.specs.declared.handshake.TlsMessageHandshake.the-variants.{CertificateVerify, ClientKeyExchange, Finished, ServerDone, ServerKeyExchange};
+ghost use Rattle.message.specs.declared.keyexchange.TlsClientKeyExchangeContents.the-variants.{Unknown};
+ghost use Rattle.opaque.specs.Whole.{wholeBody};
 use message::handshake::MessageAnswer;
 use message::handshake::TlsMessageHandshake;
 use message::keyexchange::TlsClientKeyExchangeContents;
@@ -9,7 +11,7 @@ use message::keyexchange::TlsServerKeyExchangeContents;
 use wire::view::PartAnswer;
 
 pub fn parse_tls_handshake_msg_serverkeyexchange(i: &[u8], len: usize) -> MessageAnswer
-    ensures { λ r. ⌜ messageSays r ≡ serverKeyExchangeMessage len (now (i .entry)) ⌝ }
+    ensures { λ r. ⌜ messageSays r ≡ wholeBody (λ v. ServerKeyExchange (record { parameters = v })) len (now (i .entry)) ⌝ }
 {
     match field::take(i, 0, len) {
         PartAnswer::Refused(r) => MessageAnswer::Refused(r),
@@ -22,7 +24,7 @@ pub fn parse_tls_handshake_msg_serverkeyexchange(i: &[u8], len: usize) -> Messag
 }
 
 pub fn parse_tls_handshake_msg_serverdone(i: &[u8], len: usize) -> MessageAnswer
-    ensures { λ r. ⌜ messageSays r ≡ serverDoneMessage len (now (i .entry)) ⌝ }
+    ensures { λ r. ⌜ messageSays r ≡ wholeBody (λ v. ServerDone v) len (now (i .entry)) ⌝ }
 {
     match field::take(i, 0, len) {
         PartAnswer::Refused(r) => MessageAnswer::Refused(r),
@@ -34,7 +36,7 @@ pub fn parse_tls_handshake_msg_serverdone(i: &[u8], len: usize) -> MessageAnswer
 }
 
 pub fn parse_tls_handshake_msg_certificateverify(i: &[u8], len: usize) -> MessageAnswer
-    ensures { λ r. ⌜ messageSays r ≡ certificateVerifyMessage len (now (i .entry)) ⌝ }
+    ensures { λ r. ⌜ messageSays r ≡ wholeBody (λ v. CertificateVerify v) len (now (i .entry)) ⌝ }
 {
     match field::take(i, 0, len) {
         PartAnswer::Refused(r) => MessageAnswer::Refused(r),
@@ -47,7 +49,7 @@ pub fn parse_tls_handshake_msg_certificateverify(i: &[u8], len: usize) -> Messag
 
 // The method is not known here, so it is always raw.
 pub fn parse_tls_handshake_msg_clientkeyexchange(i: &[u8], len: usize) -> MessageAnswer
-    ensures { λ r. ⌜ messageSays r ≡ clientKeyExchangeMessage len (now (i .entry)) ⌝ }
+    ensures { λ r. ⌜ messageSays r ≡ wholeBody (λ v. ClientKeyExchange (Unknown v)) len (now (i .entry)) ⌝ }
 {
     match field::take(i, 0, len) {
         PartAnswer::Refused(r) => MessageAnswer::Refused(r),
@@ -60,7 +62,7 @@ pub fn parse_tls_handshake_msg_clientkeyexchange(i: &[u8], len: usize) -> Messag
 }
 
 pub fn parse_tls_handshake_msg_finished(i: &[u8], len: usize) -> MessageAnswer
-    ensures { λ r. ⌜ messageSays r ≡ finishedMessage len (now (i .entry)) ⌝ }
+    ensures { λ r. ⌜ messageSays r ≡ wholeBody (λ v. Finished v) len (now (i .entry)) ⌝ }
 {
     match field::take(i, 0, len) {
         PartAnswer::Refused(r) => MessageAnswer::Refused(r),

@@ -1,9 +1,8 @@
 // The plaintext record: opened by its type (RFC 5246 6.2.1).
 ghost use mathlib.Core.Path.{_≡_};
-ghost use Prim.Native.Nat.{_≤_};
-ghost use lib.ListN.{length};
-ghost use Rattle.refusal.specs.Answers.{then};
-ghost use Rattle.plaintext.specs.Plaintext.{counted, firstRefusal, handshakes, openedFirst, openedSays, otherType, plaintext, plaintextSays, withFirst};
+ghost use Rattle.refusal.specs.Answers.{accepted, then};
+ghost use Rattle.envelope.specs.Opening.{metAt};
+ghost use Rattle.plaintext.specs.Plaintext.{firstRefusal, handshakes, openedFirst, openedSays, otherType, plainRecord, plaintext, plaintextSays};
 use envelope::HeadAnswer;
 use envelope::TlsMessageHead;
 use message::handshake::MessageAnswer;
@@ -54,7 +53,7 @@ fn first_refusal(r: Refusal, at: usize) -> Refusal
 
 // The record opened as handshake messages, with its content.
 fn open_handshake(outer: TlsRawRecord, content: &[u8]) -> PlaintextAnswer
-    ensures { λ r. ⌜ plaintextSays r ≡ handshakes outer (now (content .entry)) ⌝ }
+    ensures { λ r. ⌜ plaintextSays r ≡ then (handshakes outer (now (content .entry))) (λ x. accepted (x .«record»)) ⌝ }
 {
     let hdr = outer.hdr;
     let msg = outer.data;
@@ -100,8 +99,8 @@ pub fn parse_tls_plaintext(i: &[u8]) -> PlaintextAnswer
 
 // The record with its content, whose first message is met and ends at `next`: the others are counted.
 fn count_others(outer: TlsRawRecord, content: &[u8], next: usize) -> TlsPlaintext
-    requires { ⌜ next ≤ length (now content) ⌝ }
-    ensures { λ r. ⌜ r ≡ counted outer (now (content .entry)) next ⌝ }
+    requires { ⌜ then (metAt (now content) 0) (λ x. accepted (x .head .next)) ≡ accepted next ⌝ }
+    ensures { λ r. ⌜ r ≡ plainRecord outer (now (content .entry)) ⌝ }
 {
     let hdr = outer.hdr;
     let msg = outer.data;
@@ -117,7 +116,7 @@ fn count_others(outer: TlsRawRecord, content: &[u8], next: usize) -> TlsPlaintex
 
 // The record opened as handshake messages, with its content, and the first of them.
 fn open_first(outer: TlsRawRecord, content: &[u8]) -> OpenedAnswer
-    ensures { λ r. ⌜ openedSays r ≡ then (handshakes outer (now (content .entry))) (withFirst (now (content .entry))) ⌝ }
+    ensures { λ r. ⌜ openedSays r ≡ handshakes outer (now (content .entry)) ⌝ }
 {
     let msg = outer.data;
     let head = match envelope::parse_tls_message_head(content, 0) {

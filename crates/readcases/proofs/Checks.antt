@@ -2,7 +2,8 @@
 use Prim.Native.Nat.{ℕ, _+_, _%_, _<_, _≤_}
 use mathlib.Core.Path.{_≡_, refl, ap, sym, _∙_}
 use mathlib.Core.List.{List, [], _∷_}
-use mathlib.Core.Bool.{Bool, true, false, not}
+use mathlib.Core.Bool.{Bool, true, false, not, _||_}
+use mathlib.Core.Option.{Option, none, some}
 use native.Mathlib.Omega.{arith}
 use borrow.Author.Tests.{leb-true, leb-false, ltb-true, ltb-false, eqb-true, eqb-false, le-leb, lt-ltb, le-ltb, ne-eqb}
 use lib.ListN.{length, take, drop}
@@ -11,19 +12,21 @@ use Rattle.refusal.specs.Answers.{Answer, accepted, refused, then, orElse, with
 use Rattle.refusal.specs.Refusals.{numberOf}
 use Rattle.refusal.specs.declared.Reason.{Reason}
 use Rattle.refusal.specs.declared.Reason.the-variants.{Incomplete}
+use Rattle.refusal.specs.declared.Refusal.{Refusal}
 use Rattle.refusal.proofs.Told.{its-reason, inside-reason, not-zero}
-use Rattle.wire.specs.Parts.{pick, partOf, partAt}
+use Rattle.wire.specs.Parts.{pick, ifSome, partOf, partAt}
 use Rattle.wire.specs.Numbers.{be, numberAt}
 use Rattle.wire.specs.declared.view.View.{View}
 use Rattle.wire.specs.declared.view.Part.{Part}
 use Rattle.wire.specs.declared.number.Number.{Number}
 use Rattle.wire.proofs.Parts.{found, part-in, part-out}
-use Rattle.field.specs.Fields.{Field, fixed, counted, Rule, ruled, step}
-use Rattle.grammar.specs.Grammars.{Each}
+use Rattle.field.specs.Fields.{Field, fixed, counted, Rule, unless, ruled, step}
+use Rattle.field.proofs.Rules.{ruled-in, ruled-out}
+use Rattle.grammar.specs.Grammars.{How, Row, Views}
 use Rattle.grammar.specs.Reading.{fieldsAt, lastAt, withLast}
 use Rattle.grammar.specs.Forms.{Form, valueOf, reading}
 use Rattle.grammar.proofs.Chain.{begin-on}
-use Rattle.readcases.specs.Readers.{Check, inOrder, under, All, _&_, end}
+use Rattle.readcases.specs.Readers.{inOrder, under, All, _&_, end}
 
 -- what is made of an accepted answer does not count
 pub number-on : {A B : Type 0} (x : Answer A) (f : A → B) → numberIn (then x (λ a. accepted (f a))) ≡ numberIn x
@@ -79,95 +82,101 @@ pub fixed-then : {B : Type 0} (n : ℕ) (s : List ℕ) (at : ℕ) (k : Part → 
 unfolding step
 fixed-then n s at k = part-then Incomplete s at n k
 
-ruled-then : {B : Type 0} (r : Rule) (s : List ℕ) (at n : ℕ) (k : Part → Answer B)
-    → numberIn (then (ruled r s at n) k) ≡ inOrder ((not (r .allows n), r .broken) ∷ under s (at + n) (r .past) ∷ []) (numberIn (k (found at n)))
-unfolding ruled inOrder
-ruled-then r s at n k = go (r .allows n) refl
-  where
-    go : (t : Bool) → r .allows n ≡ t
-        → numberIn (then (ruled r s at n) k) ≡ inOrder ((not (r .allows n), r .broken) ∷ under s (at + n) (r .past) ∷ []) (numberIn (k (found at n)))
-    go true q = rw q (part-then (r .past) s at n k)
-    go false q = rw q (ap numberOf (its-reason (r .broken) at 0))
+-- the number by the rule of a length n that stands at a place, its bytes behind it, and what follows
+abbrev byRule : Rule → ℕ → ℕ → ℕ → ℕ → ℕ
+byRule r at behind n x = ifSome (r .broken n) (λ made. numberOf (made at behind .reason)) x
 
--- the checks of a field with a length
-abbrev countedChecks : ℕ → Rule → List ℕ → ℕ → List Check
-countedChecks w r s at = under s (at + w) Incomplete ∷ (not (r .allows (be w s at)), r .broken) ∷ []
+-- of a rule that has a test
+pub by-test : (t : Bool) (made : ℕ → ℕ → Refusal) (at behind : ℕ) {why : Reason} → made at behind .reason ≡ why → (x : ℕ)
+    → ifSome (unless t made) (λ r. numberOf (r at behind .reason)) x ≡ pick (not t) (numberOf why) x
+by-test true made at behind e x = refl
+by-test false made at behind e x = ap numberOf e
+
+ruled-then : {B : Type 0} (r : Rule) (s : List ℕ) (at behind n : ℕ) (k : Part → Answer B)
+    → numberIn (then (ruled r s at behind n) k) ≡ byRule r at behind n (inOrder (under s (behind + n) (r .past) ∷ []) (numberIn (k (found behind n))))
+unfolding inOrder
+ruled-then r s at behind n k = go (r .broken n) refl
+  where
+    go : (o : Option (ℕ → ℕ → Refusal)) → r .broken n ≡ o
+        → numberIn (then (ruled r s at behind n) k) ≡ byRule r at behind n (inOrder (under s (behind + n) (r .past) ∷ []) (numberIn (k (found behind n))))
+    go none q = rw (ruled-in r s at behind n q, q) (part-then (r .past) s behind n k)
+    go (some made) q = rw (ruled-out r s at behind n made q, q)
+
+-- a field with a length, and what follows
+abbrev countedNumber : ℕ → Rule → List ℕ → ℕ → ℕ → ℕ
+countedNumber w r s at x = inOrder (under s (at + w) Incomplete ∷ []) (byRule r at (at + w) (be w s at) x)
 
 pub counted-then : {B : Type 0} (w : ℕ) (r : Rule) (s : List ℕ) (at : ℕ) (k : Part → Answer B)
-    → numberIn (then (step (counted w r) s at) k) ≡ inOrder (countedChecks w r s at) (inOrder (under s (at + w + be w s at) (r .past) ∷ []) (numberIn (k (found (at + w) (be w s at)))))
+    → numberIn (then (step (counted w r) s at) k) ≡ countedNumber w r s at (inOrder (under s (at + w + be w s at) (r .past) ∷ []) (numberIn (k (found (at + w) (be w s at)))))
 unfolding step inOrder
 counted-then w r s at k = rw (then-assoc, number-then, ruled-then)
 
--- the bytes up to a place, where the fields that follow do not ask for them with the same refusal
-abbrev asked : Reason → List ℕ → ℕ → List Field → List Check → List Check
-asked why s n [] checks = under s n why ∷ checks
-asked why s n (f ∷ fs) checks = pick (eqb (numberOf why) 1) checks (under s n why ∷ checks)
+-- the bytes up to a place, where the rows that follow do not ask for them with the same refusal
+abbrev asked : Reason → List ℕ → ℕ → List Row → ℕ → ℕ
+asked why s n [] x = pick (ltb (length s) n) (numberOf why) x
+asked why s n (r ∷ rs) x = pick (eqb (numberOf why) 1) x (pick (ltb (length s) n) (numberOf why) x)
 
--- the checks of fields in a row, from a place on, and the views found where none holds
-abbrev pub checksOf : List Field → List ℕ → ℕ → List Check
-checksOf [] s at = []
-checksOf (fixed n ∷ fs) s at = asked Incomplete s (at + n) fs (checksOf fs s (at + n))
-checksOf (counted w r ∷ fs) s at =
+-- the number of rows, from a place on, and what follows; and the views found where all are there
+abbrev pub rowsNumber : List Row → List ℕ → ℕ → ℕ → ℕ
+rowsNumber [] s at x = x
+rowsNumber ((fixed n, m) ∷ rs) s at x = asked Incomplete s (at + n) rs (rowsNumber rs s (at + n) x)
+rowsNumber ((counted w r, m) ∷ rs) s at x =
     let past = at + w + be w s at in
-    under s (at + w) Incomplete
-    ∷ (not (r .allows (be w s at)), r .broken)
-    ∷ asked (r .past) s past fs (checksOf fs s past)
+    pick (ltb (length s) (at + w)) 1 (byRule r at (at + w) (be w s at) (asked (r .past) s past rs (rowsNumber rs s past x)))
 
-abbrev one-more : (f : Field) (fs : List Field) → View → Each View fs × ℕ → Each View (f ∷ fs) × ℕ
-one-more f fs v q = ((v, q .0), q .1)
+abbrev one-more : (w : Row) (rs : List Row) → View → Views rs × ℕ → Views (w ∷ rs) × ℕ
+one-more w rs v q = ((v, q .0), q .1)
 
-abbrev pub viewsAt : (fs : List Field) → List ℕ → ℕ → Each View fs × ℕ
+abbrev pub viewsAt : (rs : List Row) → List ℕ → ℕ → Views rs × ℕ
 viewsAt [] s at = (tt, at)
-viewsAt (fixed n ∷ fs) s at = one-more (fixed n) fs (found at n .view) (viewsAt fs s (at + n))
-viewsAt (counted w r ∷ fs) s at = one-more (counted w r) fs (found (at + w) (be w s at) .view) (viewsAt fs s (at + w + be w s at))
+viewsAt ((fixed n, m) ∷ rs) s at = one-more (fixed n, m) rs (found at n .view) (viewsAt rs s (at + n))
+viewsAt ((counted w r, m) ∷ rs) s at = one-more (counted w r, m) rs (found (at + w) (be w s at) .view) (viewsAt rs s (at + w + be w s at))
 
--- past the end the first field is lacking
-past-end : (fs : List Field) (f : Field) (s : List ℕ) (n x : ℕ) → length s < n → inOrder (checksOf (f ∷ fs) s n) x ≡ 1
-unfolding inOrder
-past-end [] (fixed m) s n x h = rw (lt-ltb (length s) (n + m) (omega arith))
-past-end [] (counted w r) s n x h = rw (lt-ltb (length s) (n + w) (omega arith))
-past-end (g ∷ fs) (fixed m) s n x h = past-end fs g s (n + m) x (omega arith)
-past-end (g ∷ fs) (counted w r) s n x h = rw (lt-ltb (length s) (n + w) (omega arith))
+-- past the end the first row is lacking
+past-end : (rs : List Row) (f : Field) (m : How) (s : List ℕ) (n x : ℕ) → length s < n → rowsNumber ((f, m) ∷ rs) s n x ≡ 1
+past-end [] (fixed k) m s n x h = rw (lt-ltb (length s) (n + k) (omega arith))
+past-end [] (counted w r) m s n x h = rw (lt-ltb (length s) (n + w) (omega arith))
+past-end ((g, o) ∷ rs) (fixed k) m s n x h = past-end rs g o s (n + k) x (omega arith)
+past-end ((g, o) ∷ rs) (counted w r) m s n x h = rw (lt-ltb (length s) (n + w) (omega arith))
 
-asked-same : (why : Reason) (s : List ℕ) (n : ℕ) (fs : List Field) (x : ℕ)
-    → inOrder (under s n why ∷ checksOf fs s n) x ≡ inOrder (asked why s n fs (checksOf fs s n)) x
-unfolding inOrder
+asked-same : (why : Reason) (s : List ℕ) (n : ℕ) (rs : List Row) (x : ℕ)
+    → pick (ltb (length s) n) (numberOf why) (rowsNumber rs s n x) ≡ asked why s n rs (rowsNumber rs s n x)
 asked-same why s n [] x = refl
-asked-same why s n (f ∷ fs) x = go (eqb (numberOf why) 1) (ltb (length s) n) refl refl
+asked-same why s n ((f, m) ∷ rs) x = go (eqb (numberOf why) 1) (ltb (length s) n) refl refl
   where
     go : (t u : Bool) → eqb (numberOf why) 1 ≡ t → ltb (length s) n ≡ u
-        → inOrder (under s n why ∷ checksOf (f ∷ fs) s n) x ≡ inOrder (asked why s n (f ∷ fs) (checksOf (f ∷ fs) s n)) x
+        → pick (ltb (length s) n) (numberOf why) (rowsNumber ((f, m) ∷ rs) s n x) ≡ asked why s n ((f, m) ∷ rs) (rowsNumber ((f, m) ∷ rs) s n x)
     go false u q p = rw q
     go true false q p = rw (q, p)
-    go true true q p = rw (q, p, past-end fs f s n x (ltb-true _ _ p)) (eqb-true _ _ q)
+    go true true q p = rw (q, p, past-end rs f m s n x (ltb-true _ _ p)) (eqb-true _ _ q)
 
-pub fields-then : (fs : List Field) (s : List ℕ) (at : ℕ) {B : Type 0} (k : Each View fs × ℕ → Answer B)
-    → numberIn (then (fieldsAt fs s at) k) ≡ inOrder (checksOf fs s at) (numberIn (k (viewsAt fs s at)))
+pub rows-then : (rs : List Row) (s : List ℕ) (at : ℕ) {B : Type 0} (k : Views rs × ℕ → Answer B)
+    → numberIn (then (fieldsAt rs s at) k) ≡ rowsNumber rs s at (numberIn (k (viewsAt rs s at)))
 unfolding fieldsAt inOrder
-fields-then [] s at k = refl
-fields-then (fixed n ∷ fs) s at k =
-    let m = one-more (fixed n) fs (found at n .view) in
-    rw (then-assoc, fixed-then, then-assoc, fields-then fs s (at + n) (λ q. k (m q)))
-    (asked-same Incomplete s (at + n) fs _)
-fields-then (counted w r ∷ fs) s at k =
+rows-then [] s at k = refl
+rows-then ((fixed n, m) ∷ rs) s at k =
+    let o = one-more (fixed n, m) rs (found at n .view) in
+    rw (then-assoc, fixed-then, then-assoc, rows-then rs s (at + n) (λ q. k (o q)))
+    (asked-same Incomplete s (at + n) rs _)
+rows-then ((counted w r, m) ∷ rs) s at k =
     let v = be w s at in
-    let m = one-more (counted w r) fs (found (at + w) v .view) in
-    rw (then-assoc, counted-then, then-assoc, fields-then fs s (at + w + v) (λ q. k (m q)), asked-same (r .past) s (at + w + v) fs _)
+    let o = one-more (counted w r, m) rs (found (at + w) v .view) in
+    rw (then-assoc, counted-then, then-assoc, rows-then rs s (at + w + v) (λ q. k (o q)), asked-same (r .past) s (at + w + v) rs _)
 
--- what a form makes of its fields where no check holds
+-- what a form makes of its rows where no check holds
 abbrev pub valueAt : {C : Type 0} (k : Form C) → List ℕ → C
 valueAt k s =
-    let q = viewsAt (k .grammar .fields) s 0 in
+    let q = viewsAt (k .grammar .rows) s 0 in
     valueOf k s (withLast (k .grammar) (q .0) (lastAt (k .grammar .block) s (q .1)))
 
--- reading by a form, and what follows: the checks of its fields come first
+-- reading by a form, and what follows: the checks of its rows come first
 pub form-then : {C B : Type 0} (k : Form C) (s : List ℕ) (c : C → Answer B)
-    → numberIn (then (reading k s) c) ≡ inOrder (checksOf (k .grammar .fields) s 0) (numberIn (c (valueAt k s)))
+    → numberIn (then (reading k s) c) ≡ rowsNumber (k .grammar .rows) s 0 (numberIn (c (valueAt k s)))
 form-then k s c =
     rw (begin-on k s, then-assoc)
-    (fields-then (k .grammar .fields) s 0 (λ q. c (valueOf k s (withLast (k .grammar) (q .0) (lastAt (k .grammar .block) s (q .1))))))
+    (rows-then (k .grammar .rows) s 0 (λ q. c (valueOf k s (withLast (k .grammar) (q .0) (lastAt (k .grammar .block) s (q .1))))))
 
-pub form-number : {C : Type 0} (k : Form C) (s : List ℕ) → numberIn (reading k s) ≡ inOrder (checksOf (k .grammar .fields) s 0) 0
+pub form-number : {C : Type 0} (k : Form C) (s : List ℕ) → numberIn (reading k s) ≡ rowsNumber (k .grammar .rows) s 0 0
 form-number {C} k s = sym (number-on (reading k s) (λ (c : C). c)) ∙ form-then k s (λ c. accepted c)
 
 -- by a number: at each of a few, and at every other
@@ -188,6 +197,13 @@ pub outside : {A : Type 0} (lo hi v : ℕ) (x y : A) → (lo ≤ v → hi < v) �
 outside lo hi v x y f = go (ltb v lo) refl
   where
     go : (t : Bool) → ltb v lo ≡ t → pick (ltb v lo) x (pick (ltb hi v) x y) ≡ x
+    go true q = rw q
+    go false q = rw (q, lt-ltb hi v (f (ltb-false v lo q)))
+
+pub either-side : (lo hi v : ℕ) → (lo ≤ v → hi < v) → (ltb v lo || ltb hi v) ≡ true
+either-side lo hi v f = go (ltb v lo) refl
+  where
+    go : (t : Bool) → ltb v lo ≡ t → (ltb v lo || ltb hi v) ≡ true
     go true q = rw q
     go false q = rw (q, lt-ltb hi v (f (ltb-false v lo q)))
 

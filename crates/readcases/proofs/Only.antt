@@ -13,34 +13,26 @@ use Rattle.refusal.specs.declared.Reason.{Reason}
 use Rattle.refusal.specs.declared.Reason.the-variants.{Complete, Switch, NoSuch}
 use Rattle.refusal.proofs.Told.{its-reason}
 use Rattle.wire.specs.Parts.{pick}
-use Rattle.wire.specs.Numbers.{be}
+use Rattle.wire.specs.Numbers.{be, numberAt}
 use Rattle.wire.specs.declared.view.View.{View}
 use Rattle.wire.specs.declared.view.Part.{Part}
 use Rattle.wire.specs.declared.number.Number.{Number}
 use Rattle.field.specs.Fields.{Field, fixed, step}
-use Rattle.grammar.specs.Forms.{reading}
-use Rattle.grammar.specs.Versions.{byVersion}
+use Rattle.grammar.specs.Forms.{reading, byVersion}
 use Rattle.list.specs.Items.{items, place, itemFrom, numberPlace, orNoSuch}
 use Rattle.client.specs.Client.{client}
-use Rattle.server.specs.Server.{server, serverVersions}
-use Rattle.server.specs.Draft18.{draft18}
-use Rattle.certs.specs.Certificate.{certificate}
-use Rattle.certs.specs.Request.{certificateRequest}
-use Rattle.certs.specs.Status.{status}
-use Rattle.body.specs.Retry.{retry}
-use Rattle.body.specs.Ticket.{sessionTicket}
-use Rattle.body.specs.NextProtocol.{nextProtocol}
+use Rattle.server.specs.Server.{server, serverVersions, draft18}
+use Rattle.certs.specs.Certs.{certificate, certificateRequest, status}
+use Rattle.body.specs.Body.{retry, sessionTicket, nextProtocol}
 use Rattle.message.specs.declared.handshake.TlsMessageHandshake.{TlsMessageHandshake}
 use Rattle.hellos.specs.Hellos.{serverMessage}
-use Rattle.bodies.specs.Bodies.{keyUpdateMessage}
 use Rattle.opaque.specs.Whole.{wholeBody}
-use Rattle.envelope.specs.Heads.{headAt}
-use Rattle.envelope.specs.Opening.{opened, metAt}
+use Rattle.envelope.specs.Opening.{headAt, opened, metAt}
 use Rattle.walk.specs.Walks.{nextMessage}
 use Rattle.walk.specs.declared.TlsRecordWalk.{TlsRecordWalk}
 use Rattle.record.specs.Records.{header, raw, encrypted}
 use Rattle.plaintext.specs.Plaintext.{plaintext, openedFirst}
-use Rattle.readcases.specs.Readers.{All, _&_, end, Check, OneOf, Only, ofParts, ofServer, ofTickets, ofClient, ofVersions, ofForms, ofMessages, ofRecords, ofPlaintext, ofPlaces, EveryAnswer, inOrder, beside, clientCase, serverCase, byVersionCase, draft18Case, serverMessageCase, retryCase, ticketCase, certificateCase, requestCase, statusCase, nextProtocolCase, keyUpdateCase, wholeCase, openedCase, bodyCase, headCase, metCase, headerCase, rawCase, recordTypeCase, plaintextCase, placeCase}
+use Rattle.readcases.specs.Readers.{All, _&_, end, Check, OneOf, Only, ofParts, ofServer, ofTickets, ofClient, ofVersions, ofForms, ofMessages, ofRecords, ofPlaintext, ofPlaces, OnlyThese, inOrder, beside, clientCase, serverCase, byVersionCase, draft18Case, serverMessageCase, retryCase, ticketCase, certificateCase, requestCase, statusCase, nextProtocolCase, keyUpdateCase, wholeCase, openedCase, bodyCase, headCase, metCase, headerCase, rawCase, recordTypeCase, plaintextCase, placeCase}
 use Rattle.readcases.proofs.Checks.{number-on}
 use Rattle.readcases.proofs.Readers.{every-reading}
 
@@ -159,9 +151,8 @@ only-of-next-protocol : (s : List ℕ) → Only ofParts (numberIn (reading nextP
 unfolding nextProtocolCase
 only-of-next-protocol s = rw (every-reading s .ofNextProtocol) (checks-only _ refl)
 
-only-key-update-as : (s : List ℕ) → Only ofParts (numberIn (keyUpdateMessage s))
-unfolding keyUpdateCase
-only-key-update-as s = rw (every-reading s .keyUpdateAs) (checks-only _ refl)
+only-numbers : (s : List ℕ) (w at : ℕ) → Only ofParts (numberIn (numberAt w s at))
+only-numbers s w at = rw (every-reading s .numbers w at) (checks-only _ refl)
 
 only-whole-as : (s : List ℕ) (make : View → TlsMessageHandshake) (n : ℕ) → Only ofParts (numberIn (wholeBody make n s))
 unfolding wholeCase
@@ -254,7 +245,7 @@ only-walks : (s : List ℕ) (w : TlsRecordWalk) → Only ofPlaces (numberIn (nex
 unfolding nextMessage
 only-walks s w = rw (number-on (orNoSuch (metAt s (w .next))) (λ x. x .says)) (no-such (metAt s (w .next)))
 
-pub every-answer : EveryAnswer
+pub every-answer : (s : List ℕ) → OnlyThese s
 every-answer s = record {
   clientHello = only-client-hello s;
   serverHello = only-server-hello s;
@@ -267,8 +258,8 @@ every-answer s = record {
   ofRequest = only-of-request s;
   ofStatus = only-of-status s;
   ofNextProtocol = only-of-next-protocol s;
-  keyUpdateAs = only-key-update-as s;
   wholeAs = only-whole-as s;
+  numbers = only-numbers s;
   opens = only-opens s;
   heads = only-heads s;
   meets = only-meets s;

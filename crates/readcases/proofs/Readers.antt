@@ -1,19 +1,20 @@
 -- The readers' numbers are the cases of `specs/Readers.antt`, a definition for each field. Assumes nothing.
-use Prim.Native.Nat.{ℕ, zero, suc, _+_, _-_, _/_, _≤_, _<_}
-use native.Mathlib.Nat.{zero-add}
+use Prim.Native.Nat.{ℕ, zero, suc, _+_, _%_, _/_, _≤_, _<_}
+use native.Mathlib.Nat.{zero-add, add-zero}
 use mathlib.Core.Path.{_≡_, refl, ap, sym, _∙_}
 use mathlib.Core.List.{List, [], _∷_}
 use mathlib.Core.Bool.{Bool, true, false}
+use mathlib.Core.Option.{Option, none, some}
 use native.Mathlib.Omega.{arith}
 use borrow.Author.Tests.{leb-true, leb-false, ltb-false, eqb-false, lt-ltb, ltb-true}
 use lib.ListN.{length}
 use lib.Dec.{leb, ltb, eqb}
-use Rattle.refusal.specs.Answers.{Answer, accepted, refused, then, numberIn}
-use Rattle.refusal.specs.Refusals.{numberOf, refusal}
-use Rattle.refusal.specs.declared.Reason.the-variants.{Incomplete, Complete, Verify, Tag, Switch, Elsewhere, NoSuch}
-use Rattle.refusal.proofs.Told.{its-reason, inside-reason}
+use Rattle.refusal.specs.Answers.{Answer, accepted, refused, then, giving, within, numberIn}
+use Rattle.refusal.specs.Refusals.{numberOf, refusal, unplaced}
+use Rattle.refusal.specs.declared.Reason.the-variants.{Incomplete, Complete, Verify, LengthValue, Tag, Switch, TooLarge, Elsewhere, NoSuch}
+use Rattle.refusal.proofs.Told.{its-reason, unplaced-reason, inside-reason}
 use Rattle.refusal.proofs.Then.{then-accepted}
-use Rattle.wire.specs.Parts.{pick, partOf}
+use Rattle.wire.specs.Parts.{pick, ifSome, lookup, partOf}
 use Rattle.wire.specs.Numbers.{be, numberAt}
 use Rattle.wire.specs.declared.view.View.{View}
 use Rattle.wire.specs.declared.view.Part.{Part}
@@ -22,37 +23,28 @@ use Rattle.wire.proofs.Numbers.{number-is}
 use Rattle.field.specs.Fields.{Field, sized, ruleOf, step, ruled}
 use Rattle.field.specs.declared.Kind.the-variants.{Plain}
 use Rattle.field.proofs.Rules.{ruled-accepted}
-use Rattle.grammar.specs.Forms.{reading}
-use Rattle.grammar.specs.Versions.{byVersion, ifListed}
+use Rattle.grammar.specs.Forms.{reading, byVersion, ifListed}
 use Rattle.list.specs.Items.{items, itemsFrom, place, itemFrom, numberPlace, orNoSuch}
 use Rattle.list.proofs.Walk.{place-past, place-below}
 use Rattle.list.proofs.Fixed.{count-of}
 use Rattle.client.specs.Client.{client}
-use Rattle.server.specs.Server.{server, serverVersions}
-use Rattle.server.specs.Draft18.{draft18}
-use Rattle.certs.specs.Certificate.{certificate}
-use Rattle.certs.specs.Request.{long, short, certificateRequest}
-use Rattle.certs.specs.Status.{status}
-use Rattle.body.specs.Retry.{retry}
-use Rattle.body.specs.Ticket.{ticket, sessionTicket}
-use Rattle.body.specs.NextProtocol.{nextProtocol}
+use Rattle.server.specs.Server.{server, serverVersions, draft18}
+use Rattle.certs.specs.Certs.{certificate, request, certificateRequest, status}
+use Rattle.body.specs.Body.{retry, sessionTicket, nextProtocol}
 use Rattle.message.specs.declared.handshake.TlsMessageHandshake.{TlsMessageHandshake}
-use Rattle.message.specs.declared.handshake.TlsMessageHandshake.the-variants.{ClientHello, ServerHello, ServerHelloV13Draft18, HelloRetryRequest, NewSessionTicket, Certificate, CertificateRequest, CertificateStatus, NextProtocol}
-use Rattle.hellos.specs.Hellos.{helloRequestMessage, clientMessage, serverMessage, retryMessage}
-use Rattle.bodies.specs.Bodies.{ticketMessage, certificateMessage, requestMessage, statusMessage, nextProtocolMessage, keyUpdateMessage}
+use Rattle.message.specs.declared.handshake.TlsMessageHandshake.the-variants.{ServerHello, ServerHelloV13Draft18, KeyUpdate}
+use Rattle.hellos.specs.Hellos.{serverMessage}
 use Rattle.opaque.specs.Whole.{wholeBody}
 use Rattle.envelope.specs.declared.TlsMessageHead.{TlsMessageHead}
-use Rattle.envelope.specs.Heads.{headAt}
-use Rattle.envelope.specs.Opening.{Met, opened, byType, metAt, message}
+use Rattle.envelope.specs.Opening.{headAt, Met, kinds, opened, byType, byTypeIn, metAt, message}
 use Rattle.walk.specs.Walks.{metHead, nextMessage}
 use Rattle.walk.specs.declared.TlsRecordWalk.{TlsRecordWalk}
 use Rattle.record.specs.Records.{header, raw, encrypted}
 use Rattle.record.specs.declared.TlsRawRecord.{TlsRawRecord}
-use Rattle.plaintext.specs.declared.TlsPlaintext.{TlsPlaintext}
 use Rattle.plaintext.specs.declared.TlsPlaintextOpened.{TlsPlaintextOpened}
-use Rattle.plaintext.specs.Plaintext.{firstRefusal, ifFirst, handshakes, byRecordType, plaintext, withFirst, openedFirst}
-use Rattle.readcases.specs.Readers.{_&_, end, inOrder, under, less, over, beside, clientCase, serverCase, byVersionCase, draft18Case, serverMessageCase, retryCase, ticketCase, certificateCase, requestCase, statusCase, nextProtocolCase, keyUpdateCase, wholeCase, openedCase, bodyCase, headChecks, headCase, metCase, headerCase, rawCase, ofFirst, recordTypeCase, plaintextCase, placeCase, itemCase, itemCount, walkCase, EveryReading}
-use Rattle.readcases.proofs.Checks.{number-on, number-within, number-else, number-pick, then-assoc, not-leb, not-even, twice, fewer-first, part-taken, number-then, fixed-then, counted-then, form-then, form-number, by-number, outside}
+use Rattle.plaintext.specs.Plaintext.{firstRefusal, asFirst, plainRecord, handshakes, otherType, openedFirst, plaintext}
+use Rattle.readcases.specs.Readers.{_&_, end, inOrder, under, less, over, beside, clientCase, serverCase, byVersionCase, draft18Case, serverMessageCase, retryCase, ticketCase, certificateCase, requestCase, statusCase, nextProtocolCase, keyUpdateCase, wholeCase, openedCase, bodyCase, headChecks, headCase, metCase, headerCase, rawCase, ofFirst, recordTypeCase, plaintextCase, placeCase, itemCase, itemCount, walkCase, Readers}
+use Rattle.readcases.proofs.Checks.{number-on, number-within, number-else, number-pick, then-assoc, not-leb, not-even, by-test, fewer-first, part-taken, number-then, fixed-then, counted-then, form-then, form-number, by-number, outside, either-side}
 
 client-hello : (s : List ℕ) → numberIn (reading client s) ≡ clientCase s
 unfolding clientCase inOrder
@@ -61,17 +53,17 @@ client-hello s =
     let cs = be 2 s (35 + id) in
     let a : 35 + id + 2 ≡ 37 + id = omega arith in
     let b : 37 + id + cs + 1 ≡ 38 + id + cs = omega arith in
-    rw (form-number client s, a, b, not-leb, not-even)
+    rw (form-number client s, a, b, by-test (leb id 32) (λ at behind. refusal Verify at 0) 34 35 (its-reason Verify 34 0), by-test (eqb (cs % 2) 0) (λ at behind. refusal LengthValue behind 0) (35 + id) (37 + id) (its-reason LengthValue (37 + id) 0), not-leb, not-even)
 
 server-hello : (s : List ℕ) (hasExt : Bool) → numberIn (reading (server hasExt) s) ≡ serverCase s
 unfolding serverCase inOrder
 server-hello s hasExt =
     let e : 35 + be 1 s 34 + 2 + 1 ≡ 38 + be 1 s 34 = omega arith in
-    rw (form-number (server hasExt) s, e, not-leb)
+    rw (form-number (server hasExt) s, e, by-test (leb (be 1 s 34) 32) (λ at behind. refusal Verify at 0) 34 35 (its-reason Verify 34 0), not-leb)
 
 -- a version from 0x0300 to 0x0303 is listed, and no other
 abbrev Listed : List ℕ → ℕ → Type 0
-Listed s v = numberIn (ifListed (serverVersions v) s) ≡ inOrder (less v 0x0300 Tag ∷ over v 0x0303 Tag ∷ []) (serverCase s)
+Listed s v = numberIn (ifListed (lookup v serverVersions) s) ≡ inOrder (less v 0x0300 Tag ∷ over v 0x0303 Tag ∷ []) (serverCase s)
 
 listed : (s : List ℕ) (v : ℕ) → Listed s v
 unfolding inOrder
@@ -87,11 +79,11 @@ unfolding byVersion byVersionCase inOrder
 server-by-version s = rw (number-then, listed s (be 2 s 0))
 
 draft18-hello : (s : List ℕ) → numberIn (reading draft18 s) ≡ draft18Case s
-unfolding draft18Case
+unfolding draft18Case inOrder
 draft18-hello s = form-number draft18 s
 
 of-retry : (s : List ℕ) → numberIn (reading retry s) ≡ retryCase s
-unfolding retryCase
+unfolding retryCase inOrder
 of-retry s = form-number retry s
 
 of-ticket : (s : List ℕ) (n : ℕ) → numberIn (sessionTicket n s) ≡ ticketCase n s
@@ -100,9 +92,7 @@ of-ticket s n = go (ltb n 4) refl
   where
     go : (t : Bool) → ltb n 4 ≡ t → numberIn (sessionTicket n s) ≡ ticketCase n s
     go true q = rw q (ap numberOf (its-reason Verify 0 0))
-    go false q =
-        let e : 4 + (n - 4) ≡ n = omega (arith, ltb-false n 4 q) in
-        rw (q, fixed-then, zero-add, form-number (ticket n) s, e, twice)
+    go false q = rw (q, fixed-then, zero-add)
 
 of-certificate : (s : List ℕ) → numberIn (reading certificate s) ≡ certificateCase s
 unfolding certificateCase inOrder
@@ -135,7 +125,7 @@ of-request s =
     let types = be 1 s 0 in
     let names = be 2 s (1 + types) in
     let e : 1 + types + 2 ≡ 3 + types = omega arith in
-    rw (number-else, number-else, form-number long s, form-number short s, its-reason Complete 0 0, e)
+    rw (number-else, number-else, form-number (request true) s, form-number (request false) s, its-reason Complete 0 0, add-zero (1 + types), e)
     (other-form (length s) 1 (3 + types) (3 + types + names) (3 + types + names + 2) _ (omega arith))
 
 of-status : (s : List ℕ) → numberIn (reading status s) ≡ statusCase s
@@ -148,13 +138,8 @@ of-next-protocol s =
     let e : 1 + be 1 s 0 + 1 ≡ 2 + be 1 s 0 = omega arith in
     rw (form-number nextProtocol s, e)
 
-hello-request-as : (s : List ℕ) → numberIn (helloRequestMessage s) ≡ 0
-unfolding helloRequestMessage
-hello-request-as s = refl
-
-client-as : (s : List ℕ) → numberIn (clientMessage s) ≡ clientCase s
-unfolding clientMessage
-client-as s = number-on (reading client s) (λ c. ClientHello c) ∙ client-hello s
+as-message : {A : Type 0} (make : A → TlsMessageHandshake) (a : Answer A) → numberIn (giving make a) ≡ numberIn a
+as-message make a = number-on a make
 
 server-as : (s : List ℕ) → numberIn (serverMessage s) ≡ serverMessageCase s
 unfolding serverMessage serverMessageCase inOrder
@@ -163,33 +148,9 @@ server-as s =
     let e = number-on (byVersion serverVersions s) (λ c. ServerHello c) in
     rw (number-then, number-pick, d, draft18-hello s, e, server-by-version s)
 
-retry-as : (s : List ℕ) → numberIn (retryMessage s) ≡ retryCase s
-unfolding retryMessage
-retry-as s = number-on (reading retry s) (λ c. HelloRetryRequest c) ∙ of-retry s
-
-ticket-as : (s : List ℕ) (n : ℕ) → numberIn (ticketMessage n s) ≡ ticketCase n s
-unfolding ticketMessage
-ticket-as s n = number-on (sessionTicket n s) (λ c. NewSessionTicket c) ∙ of-ticket s n
-
-certificate-as : (s : List ℕ) → numberIn (certificateMessage s) ≡ certificateCase s
-unfolding certificateMessage
-certificate-as s = number-on (reading certificate s) (λ c. Certificate c) ∙ of-certificate s
-
-request-as : (s : List ℕ) → numberIn (requestMessage s) ≡ requestCase s
-unfolding requestMessage
-request-as s = number-on (certificateRequest s) (λ c. CertificateRequest c) ∙ of-request s
-
-status-as : (s : List ℕ) → numberIn (statusMessage s) ≡ statusCase s
-unfolding statusMessage
-status-as s = number-on (reading status s) (λ c. CertificateStatus c) ∙ of-status s
-
-next-protocol-as : (s : List ℕ) → numberIn (nextProtocolMessage s) ≡ nextProtocolCase s
-unfolding nextProtocolMessage
-next-protocol-as s = number-on (reading nextProtocol s) (λ c. NextProtocol c) ∙ of-next-protocol s
-
-key-update-as : (s : List ℕ) → numberIn (keyUpdateMessage s) ≡ keyUpdateCase s
-unfolding keyUpdateMessage keyUpdateCase inOrder
-key-update-as s = rw number-then
+key-update : (s : List ℕ) → numberIn (giving (λ u. KeyUpdate (u .value)) (numberAt 1 s 0)) ≡ keyUpdateCase s
+unfolding keyUpdateCase inOrder
+key-update s = rw number-then
 
 whole-as : (s : List ℕ) (make : View → TlsMessageHandshake) (n : ℕ) → numberIn (wholeBody make n s) ≡ wholeCase n s
 unfolding wholeBody wholeCase inOrder
@@ -200,29 +161,38 @@ unfolding opened openedCase beside
 opens s k n =
     by-number (λ j. numberIn (opened j n s) ≡ openedCase j n s)
     (0x00 ∷ 0x01 ∷ 0x02 ∷ 0x04 ∷ 0x05 ∷ 0x06 ∷ 0x0b ∷ 0x0c ∷ 0x0d ∷ 0x0e ∷ 0x0f ∷ 0x10 ∷ 0x14 ∷ 0x16 ∷ 0x18 ∷ 0x43 ∷ [])
-    (hello-request-as s
-    & client-as s
+    (refl
+    & (as-message _ (reading client s) ∙ client-hello s)
     & server-as s
-    & ticket-as s n
+    & (as-message _ (sessionTicket n s) ∙ of-ticket s n)
     & refl
-    & retry-as s
-    & certificate-as s
+    & (as-message _ (reading retry s) ∙ of-retry s)
+    & (as-message _ (reading certificate s) ∙ of-certificate s)
     & whole-as s _ n
-    & request-as s
-    & whole-as s _ n
-    & whole-as s _ n
+    & (as-message _ (certificateRequest s) ∙ of-request s)
     & whole-as s _ n
     & whole-as s _ n
-    & status-as s
-    & key-update-as s
-    & next-protocol-as s
+    & whole-as s _ n
+    & whole-as s _ n
+    & (as-message _ (reading status s) ∙ of-status s)
+    & key-update s
+    & (as-message _ (reading nextProtocol s) ∙ of-next-protocol s)
     & end) k
     (λ (a, (b, (c, (d, (e, (f, (g, (h, (i, (j, (l, (m, (o, (p, (q, (r, _)))))))))))))))).
-    rw (a, b, c, d, e, f, g, h, i, j, l, m, o, p, q, r, its-reason Switch 0 0))
+    rw (a, b, c, d, e, f, g, h, i, j, l, m, o, p, q, r, unplaced-reason Switch))
 
 opens-all : (s : List ℕ) (k : ℕ) → numberIn (byType k s) ≡ bodyCase k s
 unfolding byType bodyCase
 opens-all s k = opens s k (length s)
+
+-- in its message it has the same number
+opens-in : (at start k : ℕ) (s : List ℕ) → numberIn (byTypeIn at start k s) ≡ bodyCase k s
+unfolding byTypeIn byType opened
+opens-in at start k s = go (lookup k (kinds (length s) s)) ∙ opens-all s k
+  where
+    go : (o : Option (Answer TlsMessageHandshake)) → numberIn (ifSome o (within start) (refused (refusal Switch at 0))) ≡ numberIn (ifSome o (λ a. a) (refused (unplaced Switch)))
+    go none = ap numberOf (its-reason Switch at 0 ∙ sym (unplaced-reason Switch))
+    go (some a) = number-within start a
 
 -- the head of a message at a place, where it is there
 abbrev headThere : List ℕ → ℕ → TlsMessageHead
@@ -247,8 +217,8 @@ meets : (s : List ℕ) (at : ℕ) → numberIn (metAt s at) ≡ metCase s at
 unfolding metAt metCase inOrder
 meets s at =
     let kind = be 1 s at in
-    let m = number-on (byType kind (partOf s (headThere s at .body))) (metThere s at) in
-    rw (head-then, number-within, m, opens-all _ kind, part-taken s (at + 4) (be 3 s (at + 1)) 1 (bodyCase kind))
+    let m = number-on (byTypeIn at (at + 4) kind (partOf s (headThere s at .body))) (metThere s at) in
+    rw (head-then, m, opens-in at (at + 4) kind (partOf s (headThere s at .body)), part-taken s (at + 4) (be 3 s (at + 1)) 1 (bodyCase kind))
 
 meets-head : (s : List ℕ) (at : ℕ) → numberIn (metHead s at) ≡ metCase s at
 unfolding metHead
@@ -267,16 +237,16 @@ record-header s =
 
 raw-record : (s : List ℕ) → numberIn (reading raw s) ≡ rawCase s
 unfolding rawCase inOrder
-raw-record s = rw (form-number raw s, not-leb)
+raw-record s = rw (form-number raw s, by-test (leb (be 2 s 3) 16640) (λ at behind. refusal TooLarge at 0) 3 5 (its-reason TooLarge 3 0), not-leb)
 
 encrypted-record : (s : List ℕ) → numberIn (encrypted s) ≡ rawCase s
 unfolding encrypted
 encrypted-record s = number-on (reading raw s) (λ r. record { hdr = r .hdr; msg = record { blob = r .«data» }; next = r .next }) ∙ raw-record s
 
 -- Incomplete from the first message becomes Complete
-first-number : {A B : Type 0} (at : ℕ) (x : Answer A) (b : B) → numberIn (ifFirst at x b) ≡ ofFirst (numberIn x)
-first-number at (accepted a) b = refl
-first-number at (refused r) b = go (eqb (numberOf (r .reason)) 1) refl
+first-number : {A : Type 0} (at : ℕ) (x : Answer A) → numberIn (asFirst at x) ≡ ofFirst (numberIn x)
+first-number at (accepted a) = refl
+first-number at (refused r) = go (eqb (numberOf (r .reason)) 1) refl
   where
     go : (t : Bool) → eqb (numberOf (r .reason)) 1 ≡ t → numberOf (firstRefusal at r .reason) ≡ ofFirst (numberOf (r .reason))
     go true q = rw q (ap numberOf (its-reason Complete at 0))
@@ -284,51 +254,32 @@ first-number at (refused r) b = go (eqb (numberOf (r .reason)) 1) refl
 
 handshake-number : (r : TlsRawRecord) (content : List ℕ) → numberIn (handshakes r content) ≡ ofFirst (metCase content 0)
 unfolding handshakes
-handshake-number r content = rw (← meets content 0) (first-number (r .«data» .start) (metAt content 0) _)
+handshake-number r content =
+    number-on (asFirst (r .«data» .start) (metAt content 0)) (λ x. record { «record» = plainRecord r content; head = x .head; message = x .says })
+    ∙ rw (← meets content 0) (first-number (r .«data» .start) (metAt content 0))
+
+-- by the record's type
+abbrev byRecordType : ℕ → TlsRawRecord → List ℕ → Answer TlsPlaintextOpened
+byRecordType t r content = pick (eqb t 0x16) (handshakes r content) (refused (otherType t))
 
 by-record-type : (t : ℕ) (r : TlsRawRecord) (content : List ℕ) → numberIn (byRecordType t r content) ≡ recordTypeCase t content
-unfolding byRecordType recordTypeCase inOrder
+unfolding recordTypeCase inOrder
 by-record-type t r content =
     let elsewhere = ap numberOf (its-reason Elsewhere 0 0) in
     by-number (λ x. numberIn (byRecordType x r content) ≡ recordTypeCase x content) (0x14 ∷ 0x15 ∷ 0x16 ∷ 0x17 ∷ 0x18 ∷ [])
     (elsewhere & elsewhere & handshake-number r content & elsewhere & elsewhere & end) t
     (λ (a, (b, (c, (d, (e, _))))).
     let f : 0x14 ≤ t → 0x18 < t = λ h. omega (arith, eqb-false t 0x14 a, eqb-false t 0x15 b, eqb-false t 0x16 c, eqb-false t 0x17 d, eqb-false t 0x18 e) in
-    rw (c, outside 0x14 0x18 t (refusal Switch 0 0) (refusal Elsewhere 0 0) f, its-reason Switch 0 0)
-    (sym (outside 0x14 0x18 t (numberOf Switch) _ f)))
-
-plaintext-record : (s : List ℕ) → numberIn (plaintext s) ≡ plaintextCase s
-unfolding plaintext plaintextCase inOrder
-plaintext-record s =
-    rw (form-then, by-record-type (be 1 s 0), part-taken s 5 (be 2 s 3) 1 (recordTypeCase (be 1 s 0)), not-leb)
-
--- where an answer was gone on with, what follows it adds no refusal
-adds-none : {A B C : Type 0} (x : Answer A) (f : A → Answer B) (k : B → Answer C) → ((a : A) → numberIn (then (f a) k) ≡ numberIn (f a)) → numberIn (then (then x f) k) ≡ numberIn (then x f)
-adds-none (accepted a) f k h = h a
-adds-none (refused r) f k h = refl
-
--- the record's first message, where the record is opened
-abbrev firstIn : List ℕ → TlsPlaintext → Answer TlsPlaintextOpened
-firstIn s p = withFirst (partOf s (p .msg)) p
-
-abbrev byItsType : List ℕ → TlsRawRecord → Answer TlsPlaintext
-byItsType s r = byRecordType (r .hdr .«record_type») r (partOf s (r .«data»))
-
-first-there : (s : List ℕ) (r : TlsRawRecord) → numberIn (then (byItsType s r) (firstIn s)) ≡ numberIn (byItsType s r)
-unfolding byRecordType handshakes
-first-there s r = go (eqb (r .hdr .«record_type») 0x16) (metAt (partOf s (r .«data»)) 0) refl refl
-  where
-    go : (b : Bool) (x : Answer Met) → eqb (r .hdr .«record_type») 0x16 ≡ b → metAt (partOf s (r .«data»)) 0 ≡ x → numberIn (then (byItsType s r) (firstIn s)) ≡ numberIn (byItsType s r)
-    go false x q e = rw q
-    go true (accepted x) q e = rw (q, e, e)
-    go true (refused y) q e = rw (q, e)
-
-opened-same : (s : List ℕ) → numberIn (openedFirst s) ≡ numberIn (plaintext s)
-unfolding openedFirst plaintext
-opened-same s = adds-none (reading raw s) (byItsType s) (firstIn s) (first-there s)
+    rw (c, either-side 0x14 0x18 t f, its-reason Switch 0 0) (sym (outside 0x14 0x18 t (numberOf Switch) _ f)))
 
 plaintext-opened : (s : List ℕ) → numberIn (openedFirst s) ≡ plaintextCase s
-plaintext-opened s = opened-same s ∙ plaintext-record s
+unfolding openedFirst plaintextCase inOrder
+plaintext-opened s =
+    rw (form-then, by-record-type (be 1 s 0), part-taken s 5 (be 2 s 3) 1 (recordTypeCase (be 1 s 0)), by-test (leb (be 2 s 3) 16640) (λ at behind. refusal TooLarge at 0) 3 5 (its-reason TooLarge 3 0), not-leb)
+
+plaintext-record : (s : List ℕ) → numberIn (plaintext s) ≡ plaintextCase s
+unfolding plaintext
+plaintext-record s = number-on (openedFirst s) (λ x. x .«record») ∙ plaintext-opened s
 
 number-place : {A : Type 0} (k : ℕ) (xs : List A) → numberIn (place k xs) ≡ placeCase k (length xs)
 unfolding placeCase inOrder
@@ -356,8 +307,8 @@ items-from-place s w at =
 item-found : (s : List ℕ) (w at : ℕ) {p : Part} → step (sized w) s at ≡ accepted p → p .next ≡ at + w + be w s at
 unfolding step
 item-found s w at e =
-    let t = then-accepted (numberAt w s at) (λ l. ruled (ruleOf Plain) s (l .next) (l .value)) e in
-    let u = ruled-accepted (ruleOf Plain) s (at + w) (be w s at) (rw (number-is w s at (t .1) .is) at (t .2)) in
+    let t = then-accepted (numberAt w s at) (λ l. ruled (ruleOf Plain) s at (l .next) (l .value)) e in
+    let u = ruled-accepted (ruleOf Plain) s at (at + w) (be w s at) (rw (number-is w s at (t .1) .is) at (t .2)) in
     ap (λ (p : Part). p .next) (fits Incomplete s (at + w) (be w s at) (u .1) .is)
 
 item-case : (s : List ℕ) (w at : ℕ) {a : Answer Part} → step (sized w) s at ≡ a → itemCase w s at ≡ numberIn (orNoSuch a)
@@ -389,7 +340,7 @@ walks : (s : List ℕ) (w : TlsRecordWalk) → numberIn (nextMessage s w) ≡ wa
 unfolding nextMessage walkCase
 walks s w = rw (number-on _ (λ (x : Met). x .says), number-else, meets s (w .next), its-reason NoSuch 0 0)
 
-pub every-reading : EveryReading
+pub every-reading : (s : List ℕ) → Readers s
 every-reading s = record {
   clientHello = client-hello s;
   serverHello = server-hello s;
@@ -401,16 +352,7 @@ every-reading s = record {
   ofRequest = of-request s;
   ofStatus = of-status s;
   ofNextProtocol = of-next-protocol s;
-  helloRequestAs = hello-request-as s;
-  clientAs = client-as s;
   serverAs = server-as s;
-  retryAs = retry-as s;
-  ticketAs = ticket-as s;
-  certificateAs = certificate-as s;
-  requestAs = request-as s;
-  statusAs = status-as s;
-  nextProtocolAs = next-protocol-as s;
-  keyUpdateAs = key-update-as s;
   wholeAs = whole-as s;
   opens = opens s;
   opensAll = opens-all s;

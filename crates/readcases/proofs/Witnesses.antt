@@ -66,7 +66,7 @@ each-given =
       ofRequest = ([], r [] .ofRequest) & end;
       ofStatus = ([], r [] .ofStatus) & end;
       ofNextProtocol = ([], r [] .ofNextProtocol) & end;
-      keyUpdateAs = ([], r [] .keyUpdateAs) & end;
+      keyUpdate = ([], r [] .numbers 1 0) & end;
       messageFirst =
           ([], r [] .messageFirst)
           & (emptyRequest, r emptyRequest .messageFirst)

@@ -1,13 +1,7 @@
 -- Document 01, "What the tap says when it says no": "Each is given only then". The rules of reading a second time, straight from that
 -- document: for each reader the paper's number, by places and lengths in the bytes lent, with no field, rule, grammar or step in it. That
 -- it is the reader's is shown by `proofs/Readers.antt`; which refusals there are by `proofs/Only.antt` and `proofs/Witnesses.antt`.
-use Prim.Native.Nat.{ℕ, zero, suc, _+_, _/_, _%_, _≤_}
-use mathlib.Core.Path.{_≡_}
-use mathlib.Core.Logic.{_⊎_}
-use mathlib.Core.List.{List, [], _∷_}
-use mathlib.Core.Bool.{Bool}
-use lib.ListN.{length, take, drop}
-use lib.Dec.{leb, ltb, eqb}
+use Rattle.refusal.specs.Words.{ℕ, zero, suc, _+_, _/_, _%_, _≤_, _≡_, _⊎_, List, [], _∷_, Bool, length, take, drop, leb, ltb, eqb}
 use Rattle.refusal.specs.Answers.{numberIn}
 use Rattle.refusal.specs.Refusals.{numberOf}
 use Rattle.refusal.specs.declared.Reason.{Reason}
@@ -16,24 +10,16 @@ use Rattle.wire.specs.Parts.{pick}
 use Rattle.wire.specs.Numbers.{be, numberAt}
 use Rattle.wire.specs.declared.view.View.{View}
 use Rattle.field.specs.Fields.{Field, sized}
-use Rattle.grammar.specs.Forms.{reading}
-use Rattle.grammar.specs.Versions.{byVersion}
+use Rattle.grammar.specs.Forms.{reading, byVersion}
 use Rattle.list.specs.Items.{items, place, itemFrom, numberPlace}
 use Rattle.client.specs.Client.{client}
-use Rattle.server.specs.Server.{server, serverVersions}
-use Rattle.server.specs.Draft18.{draft18}
-use Rattle.certs.specs.Certificate.{certificate}
-use Rattle.certs.specs.Request.{certificateRequest}
-use Rattle.certs.specs.Status.{status}
-use Rattle.body.specs.Retry.{retry}
-use Rattle.body.specs.Ticket.{sessionTicket}
-use Rattle.body.specs.NextProtocol.{nextProtocol}
+use Rattle.server.specs.Server.{server, serverVersions, draft18}
+use Rattle.certs.specs.Certs.{certificate, certificateRequest, status}
+use Rattle.body.specs.Body.{retry, sessionTicket, nextProtocol}
 use Rattle.message.specs.declared.handshake.TlsMessageHandshake.{TlsMessageHandshake}
-use Rattle.hellos.specs.Hellos.{helloRequestMessage, clientMessage, serverMessage, retryMessage}
-use Rattle.bodies.specs.Bodies.{ticketMessage, certificateMessage, requestMessage, statusMessage, nextProtocolMessage, keyUpdateMessage}
+use Rattle.hellos.specs.Hellos.{serverMessage}
 use Rattle.opaque.specs.Whole.{wholeBody}
-use Rattle.envelope.specs.Heads.{headAt}
-use Rattle.envelope.specs.Opening.{opened, byType, metAt, message}
+use Rattle.envelope.specs.Opening.{headAt, opened, byType, metAt, message}
 use Rattle.walk.specs.Walks.{metHead, start, nextMessage}
 use Rattle.walk.specs.declared.TlsRecordWalk.{TlsRecordWalk}
 use Rattle.record.specs.Records.{header, raw, encrypted}
@@ -280,17 +266,8 @@ pub record Readers (s : List ℕ) : Type 0 where
   pub ofRequest : numberIn (certificateRequest s) ≡ requestCase s
   pub ofStatus : numberIn (reading status s) ≡ statusCase s
   pub ofNextProtocol : numberIn (reading nextProtocol s) ≡ nextProtocolCase s
-  -- the same as messages
-  pub helloRequestAs : numberIn (helloRequestMessage s) ≡ 0
-  pub clientAs : numberIn (clientMessage s) ≡ clientCase s
+  -- the same as messages: the ServerHello of either kind, bodies handed out whole; every other is a row of the table below
   pub serverAs : numberIn (serverMessage s) ≡ serverMessageCase s
-  pub retryAs : numberIn (retryMessage s) ≡ retryCase s
-  pub ticketAs : (n : ℕ) → numberIn (ticketMessage n s) ≡ ticketCase n s
-  pub certificateAs : numberIn (certificateMessage s) ≡ certificateCase s
-  pub requestAs : numberIn (requestMessage s) ≡ requestCase s
-  pub statusAs : numberIn (statusMessage s) ≡ statusCase s
-  pub nextProtocolAs : numberIn (nextProtocolMessage s) ≡ nextProtocolCase s
-  pub keyUpdateAs : numberIn (keyUpdateMessage s) ≡ keyUpdateCase s
   pub wholeAs : (make : View → TlsMessageHandshake) (n : ℕ) → numberIn (wholeBody make n s) ≡ wholeCase n s
   -- a body by its type, of every type; a message and its head
   pub opens : (k n : ℕ) → numberIn (opened k n s) ≡ openedCase k n s
@@ -314,9 +291,6 @@ pub record Readers (s : List ℕ) : Type 0 where
   pub numbers : (w at : ℕ) → numberIn (numberAt w s at) ≡ inOrder (under s (at + w) Incomplete ∷ []) 0
   -- the walk over a record's content
   pub walks : (w : TlsRecordWalk) → numberIn (nextMessage s w) ≡ walkCase s (w .next)
-
-abbrev pub EveryReading : Type 0
-EveryReading = (s : List ℕ) → Readers s
 
 -- the number is 0, or that of one of these
 abbrev pub OneOf : List Reason → ℕ → Type 0
@@ -380,8 +354,8 @@ pub record OnlyThese (s : List ℕ) : Type 0 where
   pub ofRequest : Only ofForms (numberIn (certificateRequest s))
   pub ofStatus : Only ofParts (numberIn (reading status s))
   pub ofNextProtocol : Only ofParts (numberIn (reading nextProtocol s))
-  pub keyUpdateAs : Only ofParts (numberIn (keyUpdateMessage s))
   pub wholeAs : (make : View → TlsMessageHandshake) (n : ℕ) → Only ofParts (numberIn (wholeBody make n s))
+  pub numbers : (w at : ℕ) → Only ofParts (numberIn (numberAt w s at))
   pub opens : (k n : ℕ) → Only ofMessages (numberIn (opened k n s))
   pub heads : (at : ℕ) → Only ofParts (numberIn (headAt s at))
   pub meets : (at : ℕ) → Only ofMessages (numberIn (metAt s at))
@@ -394,9 +368,6 @@ pub record OnlyThese (s : List ℕ) : Type 0 where
   pub numberPlaces : (w k : ℕ) → Only ofPlaces (numberIn (numberPlace k w s))
   pub itemsFromPlace : (f : Field) (at : ℕ) → Only ofPlaces (numberIn (itemFrom f s at))
   pub walks : (w : TlsRecordWalk) → Only ofPlaces (numberIn (nextMessage s w))
-
-abbrev pub EveryAnswer : Type 0
-EveryAnswer = (s : List ℕ) → OnlyThese s
 
 infixr 60 _&_
 -- of each of a list, in order
@@ -420,7 +391,7 @@ pub record EachGiven : Type 0 where
   pub ofRequest : Gives (λ s. numberIn (certificateRequest s)) ofForms
   pub ofStatus : Gives (λ s. numberIn (reading status s)) ofParts
   pub ofNextProtocol : Gives (λ s. numberIn (reading nextProtocol s)) ofParts
-  pub keyUpdateAs : Gives (λ s. numberIn (keyUpdateMessage s)) ofParts
+  pub keyUpdate : Gives (λ s. numberIn (numberAt 1 s 0)) ofParts
   pub messageFirst : Gives (λ s. numberIn (message s)) ofMessages
   pub recordHeader : Gives (λ s. numberIn (header s)) ofParts
   pub rawRecord : Gives (λ s. numberIn (reading raw s)) ofRecords

@@ -1,228 +1,173 @@
 -- Document 01, "Readings to keep on the bench", all eighteen rows in one table; and readings of our own in a second one: a message of each
--- type, a ServerHello of each version, a record of each type. One claim over both, shown by `proofs/Rows.antt`.
-use Prim.Native.Nat.{ℕ}
-use mathlib.Core.Path.{_≡_}
-use mathlib.Core.List.{List, [], _∷_, _++_}
-use mathlib.Core.Option.{Option, none, some}
-use lib.ListN.{replicate}
+-- type, a ServerHello of each version, a record of each type. Bytes are written by their number: `03 000001` is `bytesOf 4 0x03_000001`.
+use Rattle.refusal.specs.Words.{ℕ, _≡_, List, [], _∷_, _++_, Option, none, some, replicate}
 use Rattle.refusal.specs.Answers.{Answer, accepted, then, numberIn, valuesIn}
 use Rattle.refusal.specs.Refusals.{numberOf}
 use Rattle.refusal.specs.declared.Reason.{Reason}
 use Rattle.refusal.specs.declared.Reason.the-variants.{Incomplete, Complete, Verify, LengthValue, Tag, Switch, TooLarge, Elsewhere, NoSuch}
 use Rattle.wire.specs.Parts.{partOf}
+use Rattle.wire.specs.Numbers.{bytesOf}
 use Rattle.wire.specs.declared.view.OptView.{OptView}
 use Rattle.wire.specs.declared.view.OptView.the-variants.{Absent, Present}
 use Rattle.wire.specs.declared.view.View.{View}
 use Rattle.field.specs.Fields.{sized}
-use Rattle.grammar.specs.Forms.{reading}
-use Rattle.grammar.specs.Versions.{byVersion}
+use Rattle.grammar.specs.Forms.{reading, byVersion}
 use Rattle.list.specs.Items.{items, place}
 use Rattle.list.specs.Listing.{bytesHanded}
 use Rattle.client.specs.Client.{client}
 use Rattle.client.specs.declared.TlsClientHelloContents.{TlsClientHelloContents}
 use Rattle.server.specs.Server.{serverVersions}
 use Rattle.server.specs.declared.tlsv12.TlsServerHelloContents.{TlsServerHelloContents}
-use Rattle.certs.specs.Certificate.{certificate}
-use Rattle.certs.specs.Request.{certificateRequest}
+use Rattle.certs.specs.Certs.{certificate, certificateRequest}
 use Rattle.certs.specs.declared.request.TlsCertificateRequestContents.{TlsCertificateRequestContents}
 use Rattle.text.specs.Hellos.{helloText}
-use Rattle.text.specs.Messages.{messageText}
+use Rattle.text.specs.Messages.{headText, messageText}
 use Rattle.message.specs.declared.handshake.TlsMessageHandshake.{TlsMessageHandshake}
 use Rattle.message.specs.declared.keyexchange.TlsClientKeyExchangeContents.the-variants.{Unknown}
 use Rattle.message.specs.declared.handshake.TlsMessageHandshake.the-variants.{HelloRequest, ClientHello, ServerHello, ServerHelloV13Draft18, NewSessionTicket, EndOfEarlyData, HelloRetryRequest, Certificate, ServerKeyExchange, CertificateRequest, ServerDone, CertificateVerify, ClientKeyExchange, Finished, CertificateStatus, NextProtocol, KeyUpdate}
 use Rattle.envelope.specs.Opening.{message}
 use Rattle.walk.specs.Walks.{messages}
 use Rattle.plaintext.specs.Plaintext.{plaintext}
-use Rattle.plaintext.specs.declared.TlsPlaintext.{TlsPlaintext}
 
--- the function that the input is handed to
-pub data Call : Type 0 where
-  -- `parse_tls_handshake_client_hello`
-  asClientHello : Call
-  -- the same, and what it reads to `gen_tls_clienthello`
-  asWrittenBack : Call
-  -- `parse_tls_handshake_server_hello`
-  asServerHello : Call
-  -- `parse_tls_handshake_certificate`, and the bytes of each certificate
-  asCertificates : Call
-  -- `parse_tls_handshake_certificaterequest`
-  asRequest : Call
-  -- the same, and the bytes of each name
-  asNames : Call
-  -- `parse_tls_message_handshake`
-  asMessage : Call
-  -- `parse_tls_plaintext`
-  asRecord : Call
-  -- the same, and the walk over its content: the message at a place
-  asMessageAt : ℕ → Call
+-- a row: its number in the paper, 0 for one of our own; the function, the input, the number of the answer and the values
+pub record Row : Type 1 where
+  pub row : ℕ
+  pub Value : Type 0
+  pub call : List ℕ → Answer Value
+  pub input : List ℕ
+  pub number : ℕ
+  pub values : Option Value
 
-abbrev pub Value : Call → Type 0
-Value asClientHello = TlsClientHelloContents
-Value asWrittenBack = List ℕ
-Value asServerHello = TlsServerHelloContents
-Value asCertificates = List (List ℕ)
-Value asRequest = TlsCertificateRequestContents
-Value asNames = List (List ℕ)
-Value asMessage = TlsMessageHandshake
-Value asRecord = TlsPlaintext
-Value (asMessageAt k) = TlsMessageHandshake
+abbrev pub accept : {A : Type 0} → ℕ → (List ℕ → Answer A) → List ℕ → A → Row
+accept {A} n call s v = record { row = n; Value = A; call = call; input = s; number = 0; values = some v }
 
--- the bytes of each item of a list behind lengths of w bytes
+abbrev pub reject : {A : Type 0} → ℕ → (List ℕ → Answer A) → List ℕ → Reason → Row
+reject {A} n call s why = record { row = n; Value = A; call = call; input = s; number = numberOf why; values = none }
+
+-- a function is told by what its contract says: `reading client` is `parse_tls_handshake_client_hello`, `byVersion serverVersions` and
+-- `certificateRequest` are those of their bodies, `message` is `parse_tls_message_handshake`, `plaintext` is `parse_tls_plaintext`; and this
+-- one hands what is read as a ClientHello to `gen_tls_clienthello`
+abbrev pub writtenBack : List ℕ → Answer (List ℕ)
+writtenBack s = then (reading client s) (λ c. messageText (headText 0x01) (helloText client s c))
+
+-- the bytes of each certificate, and of each name of a CertificateRequest: items behind lengths of w bytes
 abbrev pub itemBytes : ℕ → List ℕ → List (List ℕ)
 itemBytes w s = bytesHanded s (items (sized w) s)
 
-abbrev pub answer : (c : Call) → List ℕ → Answer (Value c)
-answer asClientHello s = reading client s
-answer asWrittenBack s = then (reading client s) (λ c. messageText 0x01 (helloText client s c))
-answer asServerHello s = byVersion serverVersions s
-answer asCertificates s = then (reading certificate s) (λ c. accepted (itemBytes 3 (partOf s (c .«cert_chain»))))
-answer asRequest s = certificateRequest s
-answer asNames s = then (certificateRequest s) (λ c. accepted (itemBytes 2 (partOf s (c .«unparsed_ca»))))
-answer asMessage s = message s
-answer asRecord s = plaintext s
-answer (asMessageAt k) s = then (plaintext s) (λ p. then (place k (messages (partOf s (p .msg)))) (λ x. accepted (x .says)))
+abbrev pub certificatesIn : List ℕ → Answer (List (List ℕ))
+certificatesIn s = then (reading certificate s) (λ c. accepted (itemBytes 3 (partOf s (c .«cert_chain»))))
 
--- a row: its number in the paper, 0 for one of our own; the function, the input, the number of the answer and the values
-pub record Row : Type 0 where
-  pub row : ℕ
-  pub call : Call
-  pub input : List ℕ
-  pub number : ℕ
-  pub values : Option (Value call)
+abbrev pub namesIn : List ℕ → Answer (List (List ℕ))
+namesIn s = then (certificateRequest s) (λ c. accepted (itemBytes 2 (partOf s (c .«unparsed_ca»))))
 
-abbrev pub accept : ℕ → (c : Call) → List ℕ → Value c → Row
-accept n c s v = record { row = n; call = c; input = s; number = 0; values = some v }
+-- the message at a place of a record: the walk over its content
+abbrev pub messageAt : ℕ → List ℕ → Answer TlsMessageHandshake
+messageAt k s = then (plaintext s) (λ p. then (place k (messages (partOf s (p .msg)))) (λ x. accepted (x .says)))
 
-abbrev pub reject : ℕ → Call → List ℕ → Reason → Row
-reject n c s why = record { row = n; call = c; input = s; number = numberOf why; values = none }
-
--- `0303 Z`, Z being 32 zero bytes, and what follows
+-- `0303 Z` and what follows, Z being 32 zero bytes
 abbrev pub from0303Z : List ℕ → List ℕ
-from0303Z rest = 0x03 ∷ 0x03 ∷ (replicate 32 0 ++ rest)
+from0303Z rest = bytesOf 2 0x0303 ++ (replicate 32 0 ++ rest)
 
--- H and what follows: `0303 Z 00 0000 00`, 38 bytes
+-- H, `0303 Z 00 0000 00`, 38 bytes, and what follows
 abbrev pub H : List ℕ → List ℕ
-H rest = from0303Z (0x00 ∷ 0x00 ∷ 0x00 ∷ 0x00 ∷ rest)
+H rest = from0303Z (bytesOf 4 0x00_0000_00 ++ rest)
+
+-- so many bytes from a place on
+abbrev pub at : ℕ → ℕ → View
+at start n = record { start = start; len = n }
 
 -- what is handed out of H: all lists empty
 abbrev pub allEmpty : OptView → ℕ → TlsClientHelloContents
-allEmpty ext tail = record {
-  version = 0x0303;
-  random = record { start = 2; len = 32 };
-  «session_id» = Absent;
-  ciphers = record { start = 37; len = 0 };
-  comp = record { start = 38; len = 0 };
-  ext = ext;
-  tail = tail;
-}
+allEmpty ext tail = record { version = 0x0303; random = at 2 32; «session_id» = Absent; ciphers = at 37 0; comp = at 38 0; ext = ext; tail = tail }
 
--- row 13: a record of a message of four bytes, and one byte more
-abbrev pub row13 : List ℕ
-row13 = 0x16 ∷ 0x03 ∷ 0x03 ∷ 0x00 ∷ 0x05 ∷ 0x00 ∷ 0x00 ∷ 0x00 ∷ 0x00 ∷ 0x01 ∷ []
+-- and of a CertificateRequest
+abbrev pub request : View → OptView → View → ℕ → TlsCertificateRequestContents
+request types pairs names tail = record { «cert_types» = types; «sig_hash_algs» = pairs; «unparsed_ca» = names; tail = tail }
 
--- a CertificateRequest without types, whose names are two bytes behind the length
-abbrev pub noTypes : OptView → View → ℕ → TlsCertificateRequestContents
-noTypes pairs names tail = record { «cert_types» = record { start = 1; len = 0 }; «sig_hash_algs» = pairs; «unparsed_ca» = names; tail = tail }
-
--- row 8 also with the length 0002
+-- document 01's, row 8 also with the length 0002
 unfoldable pub rows : List Row
 rows =
-    reject 1 asClientHello [] Incomplete
-    ∷ accept 2 asClientHello (H []) (allEmpty Absent 38)
-    ∷ accept 3 asClientHello (H (0x00 ∷ [])) (allEmpty Absent 38)
-    ∷ accept 4 asClientHello (H (0x00 ∷ 0x00 ∷ [])) (allEmpty (Present (record { start = 40; len = 0 })) 40)
-    ∷ accept 5 asClientHello (H (0x00 ∷ 0x01 ∷ [])) (allEmpty Absent 38)
-    ∷ reject 6 asClientHello (from0303Z (0x21 ∷ [])) Verify
-    ∷ reject 7 asClientHello (from0303Z (0x20 ∷ replicate 31 0)) Incomplete
-    ∷ reject 8 asClientHello (from0303Z (0x00 ∷ 0x00 ∷ 0x01 ∷ 0x00 ∷ [])) LengthValue
-    ∷ reject 8 asClientHello (from0303Z (0x00 ∷ 0x00 ∷ 0x02 ∷ 0x00 ∷ [])) LengthValue
-    ∷ reject 9 asClientHello (from0303Z (0x00 ∷ 0x00 ∷ 0x00 ∷ 0x01 ∷ [])) LengthValue
-    ∷ reject 10 asMessage (0x03 ∷ 0x00 ∷ 0x00 ∷ 0x00 ∷ []) Switch
-    ∷ reject 10 asMessage (0x03 ∷ 0x00 ∷ 0x00 ∷ 0x01 ∷ []) Incomplete
-    ∷ reject 11 asMessage (0x01 ∷ 0x00 ∷ 0x00 ∷ 0x00 ∷ []) Incomplete
-    ∷ reject 11 asRecord (0x16 ∷ 0x03 ∷ 0x01 ∷ 0x00 ∷ 0x04 ∷ 0x01 ∷ 0x00 ∷ 0x00 ∷ 0x00 ∷ []) Complete
-    ∷ reject 12 asRecord (0x16 ∷ 0x03 ∷ 0x01 ∷ 0x41 ∷ 0x01 ∷ []) TooLarge
-    ∷ reject 12 asRecord (0x16 ∷ 0x03 ∷ 0x01 ∷ 0x41 ∷ 0x00 ∷ []) Incomplete
-    ∷ accept 13 asRecord row13 (record { hdr = record { «record_type» = 0x16; version = 0x0303; len = 5 }; msg = record { start = 5; len = 5 }; count = 1; dropped = 1; next = 10 })
-    ∷ accept 13 (asMessageAt 0) row13 HelloRequest
-    ∷ reject 13 (asMessageAt 1) row13 NoSuch
-    ∷ reject 14 asServerHello (0x03 ∷ 0x04 ∷ []) Tag
-    ∷ reject 14 asServerHello (0x03 ∷ []) Incomplete
-    ∷ accept 15 asWrittenBack (H []) (0x01 ∷ 0x00 ∷ 0x00 ∷ 0x28 ∷ H (0x00 ∷ 0x00 ∷ []))
-    ∷ accept 16 asCertificates (0x00 ∷ 0x00 ∷ 0x05 ∷ 0x00 ∷ 0x00 ∷ 0x01 ∷ 0xaa ∷ 0xff ∷ []) ((0xaa ∷ []) ∷ [])
-    ∷ accept 17 asRequest (0x00 ∷ 0x00 ∷ 0x02 ∷ 0x00 ∷ 0x00 ∷ []) (noTypes Absent (record { start = 3; len = 2 }) 5)
-    ∷ accept 17 asNames (0x00 ∷ 0x00 ∷ 0x02 ∷ 0x00 ∷ 0x00 ∷ []) ([] ∷ [])
-    ∷ accept 18 asRequest (0x00 ∷ 0x00 ∷ 0x00 ∷ 0x00 ∷ 0x00 ∷ []) (noTypes (Present (record { start = 3; len = 0 })) (record { start = 5; len = 0 }) 5)
-    ∷ accept 18 asRequest (0x00 ∷ 0x00 ∷ 0x00 ∷ []) (noTypes Absent (record { start = 3; len = 0 }) 3)
-    ∷ reject 18 asRequest (0x00 ∷ 0x00 ∷ []) Complete
+    reject 1 (reading client) [] Incomplete
+    ∷ accept 2 (reading client) (H []) (allEmpty Absent 38)
+    ∷ accept 3 (reading client) (H (bytesOf 1 0x00)) (allEmpty Absent 38)
+    ∷ accept 4 (reading client) (H (bytesOf 2 0x0000)) (allEmpty (Present (at 40 0)) 40)
+    ∷ accept 5 (reading client) (H (bytesOf 2 0x0001)) (allEmpty Absent 38)
+    ∷ reject 6 (reading client) (from0303Z (bytesOf 1 0x21)) Verify
+    ∷ reject 7 (reading client) (from0303Z (bytesOf 1 0x20 ++ replicate 31 0)) Incomplete
+    ∷ reject 8 (reading client) (from0303Z (bytesOf 4 0x00_0001_00)) LengthValue
+    ∷ reject 8 (reading client) (from0303Z (bytesOf 4 0x00_0002_00)) LengthValue
+    ∷ reject 9 (reading client) (from0303Z (bytesOf 4 0x00_0000_01)) LengthValue
+    ∷ reject 10 message (bytesOf 4 0x03_000000) Switch
+    ∷ reject 10 message (bytesOf 4 0x03_000001) Incomplete
+    ∷ reject 11 message (bytesOf 4 0x01_000000) Incomplete
+    ∷ reject 11 plaintext (bytesOf 9 0x16_0301_0004_01_000000) Complete
+    ∷ reject 12 plaintext (bytesOf 5 0x16_0301_4101) TooLarge
+    ∷ reject 12 plaintext (bytesOf 5 0x16_0301_4100) Incomplete
+    ∷ accept 13 plaintext (bytesOf 10 0x16_0303_0005_00000000_01) (record { hdr = record { «record_type» = 0x16; version = 0x0303; len = 5 }; msg = at 5 5; count = 1; dropped = 1; next = 10 })
+    ∷ accept 13 (messageAt 0) (bytesOf 10 0x16_0303_0005_00000000_01) HelloRequest
+    ∷ reject 13 (messageAt 1) (bytesOf 10 0x16_0303_0005_00000000_01) NoSuch
+    ∷ reject 14 (byVersion serverVersions) (bytesOf 2 0x0304) Tag
+    ∷ reject 14 (byVersion serverVersions) (bytesOf 1 0x03) Incomplete
+    ∷ accept 15 writtenBack (H []) (bytesOf 4 0x01_000028 ++ H (bytesOf 2 0x0000))
+    ∷ accept 16 certificatesIn (bytesOf 8 0x000005_000001_aa_ff) (bytesOf 1 0xaa ∷ [])
+    ∷ accept 17 certificateRequest (bytesOf 5 0x00_0002_0000) (request (at 1 0) Absent (at 3 2) 5)
+    ∷ accept 17 namesIn (bytesOf 5 0x00_0002_0000) ([] ∷ [])
+    ∷ accept 18 certificateRequest (bytesOf 5 0x00_0000_0000) (request (at 1 0) (Present (at 3 0)) (at 5 0) 5)
+    ∷ accept 18 certificateRequest (bytesOf 3 0x00_0000) (request (at 1 0) Absent (at 3 0) 3)
+    ∷ reject 18 certificateRequest (bytesOf 2 0x00_00) Complete
     ∷ []
 
--- a ServerHello of a version: Z, no id, cipher 002f, method 00, and extensions of no bytes
-abbrev pub S : ℕ → ℕ → List ℕ
-S high low = high ∷ low ∷ (replicate 32 0 ++ (0x00 ∷ 0x00 ∷ 0x2f ∷ 0x00 ∷ 0x00 ∷ 0x00 ∷ []))
+-- a ServerHello of a version: Z, no id, cipher 002f, method 00, and extensions of no bytes; and what is handed out of it
+abbrev pub S : ℕ → List ℕ
+S version = bytesOf 2 version ++ (replicate 32 0 ++ bytesOf 6 0x00_002f_00_0000)
 
--- what is handed out of it
 abbrev pub plainServer : ℕ → OptView → ℕ → TlsServerHelloContents
-plainServer v ext tail = record { version = v; random = record { start = 2; len = 32 }; «session_id» = Absent; cipher = 0x002f; compression = 0x00; ext = ext; tail = tail }
+plainServer v ext tail = record { version = v; random = at 2 32; «session_id» = Absent; cipher = 0x002f; compression = 0x00; ext = ext; tail = tail }
 
--- the extensions of no bytes at a place
-abbrev pub none-at : ℕ → OptView
-none-at at = Present (record { start = at; len = 0 })
-
--- a record of a type that holds one byte
-abbrev pub recordOf : ℕ → List ℕ
-recordOf t = t ∷ 0x03 ∷ 0x03 ∷ 0x00 ∷ 0x01 ∷ 0x01 ∷ []
-
--- each version and the id's 32 from below; each type, its parts of lengths that differ; each record type
+-- our own: each version and the id's 32 from below; each type, its parts of lengths that differ; each record type
 unfoldable pub ownRows : List Row
 ownRows =
-    accept 0 asClientHello (from0303Z (0x20 ∷ (replicate 32 0 ++ (0x00 ∷ 0x04 ∷ 0x00 ∷ 0x2f ∷ 0x00 ∷ 0x35 ∷ 0x01 ∷ 0x00 ∷ []))))
-    (record { version = 0x0303; random = record { start = 2; len = 32 }; «session_id» = Present (record { start = 35; len = 32 }); ciphers = record { start = 69; len = 4 }; comp = record { start = 74; len = 1 }; ext = Absent; tail = 75 })
-    ∷ reject 0 asServerHello (S 0x02 0xff) Tag
-    ∷ accept 0 asServerHello (S 0x03 0x00) (plainServer 0x0300 Absent 38)
-    ∷ accept 0 asServerHello (S 0x03 0x01) (plainServer 0x0301 (none-at 40) 40)
-    ∷ accept 0 asServerHello (S 0x03 0x02) (plainServer 0x0302 (none-at 40) 40)
-    ∷ accept 0 asServerHello (S 0x03 0x03) (plainServer 0x0303 (none-at 40) 40)
-    ∷ reject 0 asServerHello (S 0x7f 0x12) Tag
-    ∷ accept 0 asMessage (0x01 ∷ 0x00 ∷ 0x00 ∷ 0x26 ∷ H []) (ClientHello (allEmpty Absent 38))
-    ∷ accept 0 asMessage (0x02 ∷ 0x00 ∷ 0x00 ∷ 0x28 ∷ S 0x03 0x03) (ServerHello (plainServer 0x0303 (none-at 40) 40))
-    ∷ accept 0 asMessage (0x02 ∷ 0x00 ∷ 0x00 ∷ 0x26 ∷ (0x7f ∷ 0x12 ∷ (replicate 32 0 ++ (0x13 ∷ 0x01 ∷ 0x00 ∷ 0x00 ∷ []))))
-    (ServerHelloV13Draft18 (record { version = 0x7f12; random = record { start = 2; len = 32 }; cipher = 0x1301; ext = none-at 38; tail = 38 }))
-    ∷ accept 0 asMessage (0x04 ∷ 0x00 ∷ 0x00 ∷ 0x06 ∷ 0x01 ∷ 0x02 ∷ 0x03 ∷ 0x04 ∷ 0xaa ∷ 0xbb ∷ [])
-    (NewSessionTicket (record { «ticket_lifetime_hint» = 0x01020304; ticket = record { start = 4; len = 2 }; tail = 6 }))
-    ∷ reject 0 asMessage (0x04 ∷ 0x00 ∷ 0x00 ∷ 0x03 ∷ 0x01 ∷ 0x02 ∷ 0x03 ∷ []) Verify
-    ∷ accept 0 asMessage (0x05 ∷ 0x00 ∷ 0x00 ∷ 0x01 ∷ 0xff ∷ []) EndOfEarlyData
-    ∷ accept 0 asMessage (0x06 ∷ 0x00 ∷ 0x00 ∷ 0x07 ∷ 0x7f ∷ 0x12 ∷ 0x13 ∷ 0x01 ∷ 0x00 ∷ 0x01 ∷ 0xaa ∷ [])
-    (HelloRetryRequest (record { version = 0x7f12; cipher = 0x1301; ext = Present (record { start = 6; len = 1 }); tail = 7 }))
-    ∷ accept 0 asMessage (0x0b ∷ 0x00 ∷ 0x00 ∷ 0x07 ∷ 0x00 ∷ 0x00 ∷ 0x04 ∷ 0x00 ∷ 0x00 ∷ 0x01 ∷ 0xaa ∷ []) (Certificate (record { «cert_chain» = record { start = 3; len = 4 }; tail = 7 }))
-    ∷ accept 0 asMessage (0x0c ∷ 0x00 ∷ 0x00 ∷ 0x01 ∷ 0xaa ∷ []) (ServerKeyExchange (record { parameters = record { start = 0; len = 1 } }))
-    ∷ accept 0 asMessage (0x0d ∷ 0x00 ∷ 0x00 ∷ 0x0b ∷ 0x01 ∷ 0x40 ∷ 0x00 ∷ 0x02 ∷ 0x04 ∷ 0x03 ∷ 0x00 ∷ 0x03 ∷ 0x00 ∷ 0x01 ∷ 0xaa ∷ [])
-    (CertificateRequest (record { «cert_types» = record { start = 1; len = 1 }; «sig_hash_algs» = Present (record { start = 4; len = 2 }); «unparsed_ca» = record { start = 8; len = 3 }; tail = 11 }))
-    ∷ accept 0 asMessage (0x0e ∷ 0x00 ∷ 0x00 ∷ 0x00 ∷ []) (ServerDone (record { start = 0; len = 0 }))
-    ∷ accept 0 asMessage (0x0f ∷ 0x00 ∷ 0x00 ∷ 0x02 ∷ 0xaa ∷ 0xbb ∷ []) (CertificateVerify (record { start = 0; len = 2 }))
-    ∷ accept 0 asMessage (0x10 ∷ 0x00 ∷ 0x00 ∷ 0x03 ∷ 0x02 ∷ 0xaa ∷ 0xbb ∷ []) (ClientKeyExchange (Unknown (record { start = 0; len = 3 })))
-    ∷ accept 0 asMessage (0x14 ∷ 0x00 ∷ 0x00 ∷ 0x01 ∷ 0xaa ∷ []) (Finished (record { start = 0; len = 1 }))
-    ∷ accept 0 asMessage (0x16 ∷ 0x00 ∷ 0x00 ∷ 0x05 ∷ 0x01 ∷ 0x00 ∷ 0x00 ∷ 0x01 ∷ 0xaa ∷ []) (CertificateStatus (record { «status_type» = 1; blob = record { start = 4; len = 1 }; tail = 5 }))
-    ∷ accept 0 asMessage (0x18 ∷ 0x00 ∷ 0x00 ∷ 0x01 ∷ 0x01 ∷ []) (KeyUpdate 1)
-    ∷ accept 0 asMessage (0x43 ∷ 0x00 ∷ 0x00 ∷ 0x05 ∷ 0x01 ∷ 0xaa ∷ 0x02 ∷ 0xbb ∷ 0xcc ∷ []) (NextProtocol (record { «selected_protocol» = record { start = 1; len = 1 }; padding = record { start = 3; len = 2 }; tail = 5 }))
-    ∷ reject 0 asMessage (0x08 ∷ 0x00 ∷ 0x00 ∷ 0x00 ∷ []) Switch
-    ∷ reject 0 asMessage (0x15 ∷ 0x00 ∷ 0x00 ∷ 0x00 ∷ []) Switch
-    ∷ reject 0 asRecord (recordOf 0x13) Switch
-    ∷ reject 0 asRecord (recordOf 0x14) Elsewhere
-    ∷ reject 0 asRecord (recordOf 0x15) Elsewhere
-    ∷ reject 0 asRecord (recordOf 0x16) Complete
-    ∷ reject 0 asRecord (recordOf 0x17) Elsewhere
-    ∷ reject 0 asRecord (recordOf 0x18) Elsewhere
-    ∷ reject 0 asRecord (recordOf 0x19) Switch
+    accept 0 (reading client) (from0303Z (bytesOf 1 0x20 ++ (replicate 32 0 ++ bytesOf 8 0x0004_002f_0035_01_00)))
+    (record { version = 0x0303; random = at 2 32; «session_id» = Present (at 35 32); ciphers = at 69 4; comp = at 74 1; ext = Absent; tail = 75 })
+    ∷ reject 0 (byVersion serverVersions) (S 0x02ff) Tag
+    ∷ accept 0 (byVersion serverVersions) (S 0x0300) (plainServer 0x0300 Absent 38)
+    ∷ accept 0 (byVersion serverVersions) (S 0x0301) (plainServer 0x0301 (Present (at 40 0)) 40)
+    ∷ accept 0 (byVersion serverVersions) (S 0x0302) (plainServer 0x0302 (Present (at 40 0)) 40)
+    ∷ accept 0 (byVersion serverVersions) (S 0x0303) (plainServer 0x0303 (Present (at 40 0)) 40)
+    ∷ reject 0 (byVersion serverVersions) (S 0x7f12) Tag
+    ∷ accept 0 message (bytesOf 4 0x01_000026 ++ H []) (ClientHello (allEmpty Absent 38))
+    ∷ accept 0 message (bytesOf 4 0x02_000028 ++ S 0x0303) (ServerHello (plainServer 0x0303 (Present (at 40 0)) 40))
+    ∷ accept 0 message (bytesOf 6 0x02_000026_7f12 ++ (replicate 32 0 ++ bytesOf 4 0x1301_0000))
+    (ServerHelloV13Draft18 (record { version = 0x7f12; random = at 2 32; cipher = 0x1301; ext = Present (at 38 0); tail = 38 }))
+    ∷ accept 0 message (bytesOf 10 0x04_000006_01020304_aabb) (NewSessionTicket (record { «ticket_lifetime_hint» = 0x01020304; ticket = at 4 2; tail = 6 }))
+    ∷ reject 0 message (bytesOf 7 0x04_000003_010203) Verify
+    ∷ accept 0 message (bytesOf 5 0x05_000001_ff) EndOfEarlyData
+    ∷ accept 0 message (bytesOf 11 0x06_000007_7f12_1301_0001_aa) (HelloRetryRequest (record { version = 0x7f12; cipher = 0x1301; ext = Present (at 6 1); tail = 7 }))
+    ∷ accept 0 message (bytesOf 11 0x0b_000007_000004_000001_aa) (Certificate (record { «cert_chain» = at 3 4; tail = 7 }))
+    ∷ accept 0 message (bytesOf 5 0x0c_000001_aa) (ServerKeyExchange (record { parameters = at 0 1 }))
+    ∷ accept 0 message (bytesOf 15 0x0d_00000b_01_40_0002_0403_0003_0001_aa) (CertificateRequest (request (at 1 1) (Present (at 4 2)) (at 8 3) 11))
+    ∷ accept 0 message (bytesOf 4 0x0e_000000) (ServerDone (at 0 0))
+    ∷ accept 0 message (bytesOf 6 0x0f_000002_aabb) (CertificateVerify (at 0 2))
+    ∷ accept 0 message (bytesOf 7 0x10_000003_02_aabb) (ClientKeyExchange (Unknown (at 0 3)))
+    ∷ accept 0 message (bytesOf 5 0x14_000001_aa) (Finished (at 0 1))
+    ∷ accept 0 message (bytesOf 9 0x16_000005_01_000001_aa) (CertificateStatus (record { «status_type» = 1; blob = at 4 1; tail = 5 }))
+    ∷ accept 0 message (bytesOf 5 0x18_000001_01) (KeyUpdate 1)
+    ∷ accept 0 message (bytesOf 9 0x43_000005_01_aa_02_bbcc) (NextProtocol (record { «selected_protocol» = at 1 1; padding = at 3 2; tail = 5 }))
+    ∷ reject 0 message (bytesOf 4 0x08_000000) Switch
+    ∷ reject 0 message (bytesOf 4 0x15_000000) Switch
+    ∷ reject 0 plaintext (bytesOf 6 0x13_0303_0001_01) Switch
+    ∷ reject 0 plaintext (bytesOf 6 0x14_0303_0001_01) Elsewhere
+    ∷ reject 0 plaintext (bytesOf 6 0x15_0303_0001_01) Elsewhere
+    ∷ reject 0 plaintext (bytesOf 6 0x16_0303_0001_01) Complete
+    ∷ reject 0 plaintext (bytesOf 6 0x17_0303_0001_01) Elsewhere
+    ∷ reject 0 plaintext (bytesOf 6 0x18_0303_0001_01) Elsewhere
+    ∷ reject 0 plaintext (bytesOf 6 0x19_0303_0001_01) Switch
     ∷ []
 
+-- the claim over a table
 abbrev pub Reads : Row → Type 0
-Reads x = (numberIn (answer (x .call) (x .input)) ≡ x .number) × (valuesIn (answer (x .call) (x .input)) ≡ x .values)
+Reads x = (numberIn (x .call (x .input)) ≡ x .number) × (valuesIn (x .call (x .input)) ≡ x .values)
 
 abbrev pub AllRead : List Row → Type 0
 AllRead [] = Unit
 AllRead (x ∷ xs) = Reads x × AllRead xs
-
--- the claim
-abbrev pub EachRow : Type 0
-EachRow = AllRead rows × AllRead ownRows

@@ -1,12 +1,14 @@
 -- What demand 3 says of the hellos, of records, an instance of the one theorem; and equal numbers and values mean equal answers. Assumes
 -- nothing.
+use Prim.Native.Nat.{ℕ}
 use mathlib.Core.Path.{_≡_, refl}
+use mathlib.Core.List.{List}
 use Rattle.refusal.specs.Answers.{Answer, accepted, refused, OneResult}
 use Rattle.refusal.proofs.Told.{tells-all}
-use Rattle.grammar.specs.Lawful.{Lawful}
+use Rattle.wire.specs.Numbers.{Bytes}
+use Rattle.grammar.specs.Demand3.{Lawful, BySplit}
 use Rattle.grammar.proofs.Forms.{by-split}
 use Rattle.record.specs.Records.{raw, headerSays, rawSays, encryptedSays}
-use Rattle.record.specs.Whole.{AllRecords}
 use Rattle.record.specs.declared.TlsRecordHeader.{TlsRecordHeader}
 use Rattle.record.specs.declared.RecordHeaderAnswer.{RecordHeaderAnswer}
 use Rattle.record.specs.declared.TlsRawRecord.{TlsRawRecord}
@@ -17,8 +19,8 @@ use Rattle.record.specs.declared.EncryptedAnswer.{EncryptedAnswer}
 raw-lawful : Lawful raw
 raw-lawful = record { suits = (refl, (refl, (tt, tt))); handed = λ o e t. refl; block = λ o e t. refl; tail = λ o e t. refl }
 
-pub all-records : AllRecords
-all-records s b = by-split raw raw-lawful s b
+pub all-records : (s : List ℕ) → Bytes s → BySplit raw s
+all-records = by-split raw raw-lawful
 
 abbrev header-back : Answer TlsRecordHeader → RecordHeaderAnswer
 header-back (accepted a) = RecordHeaderAnswer.Got a

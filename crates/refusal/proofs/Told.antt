@@ -5,7 +5,7 @@ use mathlib.Core.Path.{_≡_, refl, sym, ap, _∙_}
 use mathlib.Core.List.{List, [], _∷_}
 use native.Mathlib.Omega.{arith}
 use lib.ListN.{getD}
-use Rattle.refusal.specs.Refusals.{numberOf, refusal, inside, NumbersApart}
+use Rattle.refusal.specs.Refusals.{numberOf, refusal, unplaced, inside, NumbersApart}
 use Rattle.refusal.specs.Answers.{Answer, accepted, refused, TellSame, OneResult}
 use Rattle.refusal.specs.declared.Reason.{Reason}
 use Rattle.refusal.specs.declared.Reason.the-variants.{Incomplete, Complete, Verify, LengthValue, Tag, Switch, TooLarge, BadLength, NoRoom, Elsewhere, NoSuch, NotYetImplemented}
@@ -38,6 +38,15 @@ one-reason r r′ e = sym (row-of r) ∙ ap (λ (n : ℕ). getD rows n Incomplet
 pub its-reason : (why : Reason) (at lack : ℕ) → refusal why at lack .reason ≡ why
 unfolding refusal
 its-reason why at lack = refl
+
+pub unplaced-reason : (why : Reason) → unplaced why .reason ≡ why
+unfolding unplaced
+unplaced-reason why = refl
+
+-- no place is told today: one without a place, inside a part, is that of any place
+pub unplaced-inside : (why : Reason) (at lack start : ℕ) → inside start (unplaced why) ≡ refusal why at lack
+unfolding refusal unplaced inside
+unplaced-inside why at lack start = refl
 
 -- inside a part it stays
 pub inside-reason : (at : ℕ) (r : Refusal) → inside at r .reason ≡ r .reason

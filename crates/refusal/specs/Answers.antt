@@ -1,8 +1,6 @@
 -- Demand 1: a call ends with a value or one refusal. Each answer of the code that is an enum has its `Says`, by cases, into this: the
 -- paper's number and the values.
-use Prim.Native.Nat.{ℕ}
-use mathlib.Core.Path.{_≡_}
-use mathlib.Core.Option.{Option, none, some}
+use Rattle.refusal.specs.Words.{ℕ, _≡_, Option, none, some}
 use Rattle.refusal.specs.Refusals.{numberOf, inside}
 use Rattle.refusal.specs.declared.Refusal.{Refusal}
 
@@ -32,6 +30,10 @@ OneResult {A} {B} says = (x y : B) → TellSame (says x) (says y) → x ≡ y
 abbrev pub then : {A B : Type 0} → Answer A → (A → Answer B) → Answer B
 then (accepted a) k = k a
 then (refused r) k = refused r
+
+-- an answer whose value is handed out as what is made of it
+abbrev pub giving : {A B : Type 0} → (A → B) → Answer A → Answer B
+giving make a = then a (λ x. accepted (make x))
 
 -- the first where it is accepted, else the second
 abbrev pub orElse : {A : Type 0} → Answer A → Answer A → Answer A

@@ -1,6 +1,5 @@
 -- Document 01, "What the tap says when it says no": the table's numbers, and what a refusal is made from.
-use Prim.Native.Nat.{ℕ}
-use mathlib.Core.Path.{_≡_}
+use Rattle.refusal.specs.Words.{ℕ, _≡_}
 use Rattle.refusal.specs.declared.Reason.{Reason}
 use Rattle.refusal.specs.declared.Reason.the-variants.{Incomplete, Complete, Verify, LengthValue, Tag, Switch, TooLarge, BadLength, NoRoom, Elsewhere, NoSuch, NotYetImplemented}
 use Rattle.refusal.specs.declared.Refusal.{Refusal}
@@ -27,6 +26,10 @@ pub record NumbersApart : Type 0 where
 -- the refusal of an item that begins at a place and lacks so many bytes: it carries its number alone, so place and shortfall are dropped
 unfoldable pub refusal : Reason → ℕ → ℕ → Refusal
 refusal why at lack = record { reason = why }
+
+-- a refusal to write: no place in bytes that were read is meant
+unfoldable pub unplaced : Reason → Refusal
+unplaced why = record { reason = why }
 
 -- the refusal of what lies inside a part that begins at a place and is whole: its item begins so much later in the bytes lent, and no
 -- further byte helps; it carries its number alone, so it stays as it is

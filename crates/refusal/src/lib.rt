@@ -1,6 +1,6 @@
 // Why the tap says no: document 01's table as one type, and the only place where a refusal is made.
 ghost use mathlib.Core.Path.{_≡_};
-ghost use Rattle.refusal.specs.Refusals.{inside, numberOf, refusal};
+ghost use Rattle.refusal.specs.Refusals.{inside, numberOf, refusal, unplaced};
 
 // The table's rows 1 to 12, in its order.
 pub enum Reason {
@@ -28,6 +28,13 @@ pub fn refuse(reason: Reason, at: usize, lack: usize) -> Refusal
     ensures { λ r. ⌜ r ≡ refusal reason at lack ⌝ }
 {
     Refusal { reason }
+}
+
+// A refusal to write: no place in bytes that were read is meant.
+pub fn unplaced(why: Reason) -> Refusal
+    ensures { λ r. ⌜ r ≡ unplaced why ⌝ }
+{
+    Refusal { reason: why }
 }
 
 // The refusal of what lies inside a whole part that begins at `at`: it carries its reason alone, so it stays as it is.

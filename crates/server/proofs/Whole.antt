@@ -2,20 +2,15 @@
 -- equal answers. Assumes nothing.
 use Prim.Native.Nat.{ℕ}
 use mathlib.Core.Path.{_≡_, refl}
+use mathlib.Core.List.{List}
 use mathlib.Core.Bool.{Bool, true, false}
-use mathlib.Core.Option.{Option, none, some}
-use native.Mathlib.Omega.{arith}
-use lib.Dec.{eqb}
 use Rattle.refusal.specs.Answers.{Answer, accepted, refused, OneResult}
 use Rattle.refusal.proofs.Told.{tells-all}
-use Rattle.wire.specs.Parts.{pick}
-use Rattle.grammar.specs.Forms.{Form}
-use Rattle.grammar.specs.Lawful.{Lawful}
+use Rattle.wire.specs.Numbers.{Bytes}
+use Rattle.grammar.specs.Demand3.{Lawful, BySplit, ByVersion}
 use Rattle.grammar.proofs.Forms.{by-split}
-use Rattle.grammar.proofs.Versions.{by-version}
-use Rattle.server.specs.Server.{server, serverVersions, serverSays}
-use Rattle.server.specs.Draft18.{draft18, draft18Says}
-use Rattle.server.specs.Demand3.{Demand3}
+use Rattle.grammar.proofs.Versions.{listed-lawful, by-version}
+use Rattle.server.specs.Server.{server, serverVersions, serverSays, draft18, draft18Says}
 use Rattle.server.specs.declared.tlsv12.TlsServerHelloContents.{TlsServerHelloContents}
 use Rattle.server.specs.declared.tlsv12.ServerHelloAnswer.{ServerHelloAnswer}
 use Rattle.server.specs.declared.tlsv13draft18.TlsServerHelloV13Draft18Contents.{TlsServerHelloV13Draft18Contents}
@@ -27,23 +22,16 @@ server-lawful hasExt = record { suits = (refl, (tt, (tt, (refl, (refl, tt))))); 
 pub draft18-lawful : Lawful draft18
 draft18-lawful = record { suits = (refl, (tt, (refl, tt))); handed = λ o e t. refl; block = λ o e t. refl; tail = λ o e t. refl }
 
--- each form of a listing by tests is lawful where the first is, and those after it
-first : {C : Type 0} (t : Bool) {j : Form C} {o : Option (Form C)} → Lawful j → ((k : Form C) → o ≡ some k → Lawful k) → (k : Form C) → pick t (some j) o ≡ some k → Lawful k
-first true {j} l m k e =
-    let f : some j ≡ some k = e in
-    let d : j ≡ k = cc in
-    rw (← d) l
-first false l m k e = m k e
+-- by their grammars, whatever the version
+pub demand3 : (hasExt : Bool) (body : List ℕ) → Bytes body → BySplit (server hasExt) body
+demand3 hasExt = by-split (server hasExt) (server-lawful hasExt)
 
-last : {C : Type 0} (k : Form C) → _≡_ {A = Option (Form C)} none (some k) → Lawful k
-last k e = let z : _≡_ {A = ℕ} 0 1 = cc in absurd (omega arith)
+pub demand3-draft18 : (body : List ℕ) → Bytes body → BySplit draft18 body
+demand3-draft18 = by-split draft18 draft18-lawful
 
-pub demand3 : Demand3
-demand3 s b = record {
-  serverHello = λ hasExt. by-split (server hasExt) (server-lawful hasExt) s b;
-  draft18Hello = by-split draft18 draft18-lawful s b;
-  byItsVersion = by-version serverVersions (λ v. first (eqb v 0x0303) (server-lawful true) (first (eqb v 0x0302) (server-lawful true) (first (eqb v 0x0301) (server-lawful true) (first (eqb v 0x0300) (server-lawful false) last)))) s b;
-}
+-- the ServerHello by its version
+pub demand3-by-version : (body : List ℕ) → Bytes body → ByVersion serverVersions body
+demand3-by-version = by-version serverVersions (listed-lawful serverVersions (server-lawful true, (server-lawful true, (server-lawful true, (server-lawful false, tt)))))
 
 abbrev server-back : Answer TlsServerHelloContents → ServerHelloAnswer
 server-back (accepted a) = ServerHelloAnswer.Got a

@@ -1,9 +1,10 @@
 // The ServerHello of the versions 0x0300 to 0x0303 (RFC 5246 7.4.1.3).
 ghost use mathlib.Core.Path.{_≡_};
 ghost use Rattle.grammar.specs.Demand3.{BySplit, ByVersion};
-ghost use Rattle.grammar.specs.Forms.{reading};
-ghost use Rattle.grammar.specs.Versions.{byVersion};
-ghost use Rattle.server.specs.Server.{extensionsAt, server, serverSays, serverVersions};
+ghost use Rattle.grammar.specs.Forms.{reading, byVersion};
+ghost use Rattle.grammar.specs.Hellos.{serverHello};
+ghost use Rattle.grammar.specs.Reading.{lastAt};
+ghost use Rattle.server.specs.Server.{server, serverSays, serverVersions};
 ghost use Rattle.wire.specs.Parts.{optPartOf, partOf};
 use field::Kind;
 use grammar::OptPart;
@@ -33,7 +34,7 @@ pub enum ServerHelloAnswer {
 
 // Without extensions they are never looked for.
 fn extensions(i: &[u8], at: usize, has_ext: bool) -> OptPart
-    ensures { λ r. ⌜ r ≡ extensionsAt «has_ext» (now (i .entry)) at ⌝ }
+    ensures { λ r. ⌜ r ≡ lastAt (serverHello «has_ext» .block) (now (i .entry)) at ⌝ }
 {
     if has_ext {
         return grammar::opt_length_data(i, at, Width::Two, Kind::Plain);

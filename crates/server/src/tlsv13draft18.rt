@@ -2,7 +2,7 @@
 ghost use mathlib.Core.Path.{_≡_};
 ghost use Rattle.grammar.specs.Demand3.{BySplit};
 ghost use Rattle.grammar.specs.Forms.{reading};
-ghost use Rattle.server.specs.Draft18.{draft18, draft18Says};
+ghost use Rattle.server.specs.Server.{draft18, draft18Says};
 ghost use Rattle.wire.specs.Parts.{optPartOf, partOf};
 use field::Kind;
 use refusal::Refusal;

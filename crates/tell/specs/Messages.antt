@@ -1,8 +1,6 @@
 -- A message as numbers: the number of its kind, then its contents in the order of their fields. A part is where it begins and how long it
 -- is; a part that may be missing has a 1 before that, or is three times 0.
-use Prim.Native.Nat.{ℕ}
-use mathlib.Core.List.{List, [], _∷_, _++_}
-use Rattle.refusal.specs.Answers.{Answer, accepted, then}
+use Rattle.refusal.specs.Words.{ℕ, List, [], _∷_, _++_}
 use Rattle.wire.specs.declared.view.View.{View}
 use Rattle.wire.specs.declared.view.OptView.{OptView}
 use Rattle.wire.specs.declared.view.OptView.the-variants.{Absent, Present}
@@ -10,10 +8,6 @@ use Rattle.message.specs.declared.keyexchange.TlsClientKeyExchangeContents.{Tls
 use Rattle.message.specs.declared.keyexchange.TlsClientKeyExchangeContents.the-variants.{Dh, Ecdh, Unknown}
 use Rattle.message.specs.declared.handshake.TlsMessageHandshake.{TlsMessageHandshake}
 use Rattle.message.specs.declared.handshake.TlsMessageHandshake.the-variants.{HelloRequest, ClientHello, ServerHello, ServerHelloV13Draft18, NewSessionTicket, EndOfEarlyData, HelloRetryRequest, Certificate, ServerKeyExchange, CertificateRequest, ServerDone, CertificateVerify, ClientKeyExchange, Finished, CertificateStatus, NextProtocol, KeyUpdate}
-
--- the numbers of an answer: those of its value, or its refusal
-abbrev pub told : {A : Type 0} → (A → List ℕ) → Answer A → Answer (List ℕ)
-told f a = then a (λ x. accepted (f x))
 
 abbrev pub partNumbers : View → List ℕ
 partNumbers v = v .start ∷ v .len ∷ []

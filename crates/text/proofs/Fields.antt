@@ -2,7 +2,7 @@
 -- none. Assumes nothing.
 use Prim.Native.Nat.{ℕ, _+_, _^_, _<_, _≤_}
 use mathlib.Core.Path.{_≡_, refl, _∙_}
-use mathlib.Core.List.{List, [], _∷_, _++_, append-assoc}
+use mathlib.Core.List.{List, _++_}
 use native.Mathlib.Omega.{arith}
 use lib.ListN.{length, length-append}
 use Rattle.refusal.specs.Answers.{Answer, accepted}
@@ -15,8 +15,6 @@ use Rattle.field.specs.Standing.{fieldBytes, Obeys}
 use Rattle.field.specs.Texts.{fieldText}
 use Rattle.field.proofs.Steps.{length-counted}
 use Rattle.field.proofs.Texts.{text-obeys}
-use Rattle.grammar.specs.Grammars.{Each}
-use Rattle.grammar.specs.Splits.{join}
 
 -- what is left to put into the buffer so far, from a place on; put in, the whole text is in the buffer lent
 pub record Left (d whole out : List ℕ) (at : ℕ) (rest : List ℕ) : Type 0 where
@@ -40,23 +38,19 @@ next {d} {whole} {out} {at} x rest l {t} e out′ at′ q n =
 pub end : {d whole out : List ℕ} {at : ℕ} {x : List ℕ} → Left d whole out at x → {t : Answer (List ℕ)} → t ≡ accepted x → (out′ : List ℕ) → out′ ≡ written t at out → out′ ≡ put d 0 whole
 end {out = out} {at = at} {x = x} l e out′ q = q ∙ written-in x at out e (l .fits) ∙ l .is
 
+-- a field, a number, a part behind its length, and the field behind the last
 module _ {d whole out : List ℕ} {at : ℕ} {out′ : List ℕ} where
-  -- one field more, a number more, a part behind its length more
-  module _ (at′ : ℕ) (fs : List Field) (ps : Each (List ℕ) fs) (z : List ℕ) where
-    pub and : (f : Field) (p : List ℕ) → Left d whole out at (join (f ∷ fs) (p, ps) ++ z) → {t : Answer (List ℕ)} → t ≡ accepted (fieldBytes f p)
-        → out′ ≡ written t at out → at′ ≡ at + length (fieldBytes f p) → Left d whole out′ at′ (join fs ps ++ z)
-    unfolding join
-    and f p l e q n = next (fieldBytes f p) (join fs ps ++ z) (rw (append-assoc (fieldBytes f p) (join fs ps) z) at l) e out′ at′ q n
+  pub and : (at′ : ℕ) (rest : List ℕ) (f : Field) (p : List ℕ) → Left d whole out at (fieldBytes f p ++ rest) → {t : Answer (List ℕ)} → t ≡ accepted (fieldBytes f p)
+      → out′ ≡ written t at out → at′ ≡ at + length (fieldBytes f p) → Left d whole out′ at′ rest
+  and at′ rest f p l e q n = next (fieldBytes f p) rest l e out′ at′ q n
 
-    pub number : (w n : ℕ) → Left d whole out at (join (fixed w ∷ fs) (bytesOf w n, ps) ++ z) → n < 256 ^ w
-        → out′ ≡ written (numberText w n) at out → at′ ≡ at + w → Left d whole out′ at′ (join fs ps ++ z)
-    number w n l h q e = and (fixed w) (bytesOf w n) l (number-accepted w n h) q (rw (length-bytes w n) e)
+  pub number : (at′ : ℕ) (rest : List ℕ) (w n : ℕ) → Left d whole out at (bytesOf w n ++ rest) → n < 256 ^ w
+      → out′ ≡ written (numberText w n) at out → at′ ≡ at + w → Left d whole out′ at′ rest
+  number at′ rest w n l h q e = and at′ rest (fixed w) (bytesOf w n) l (number-accepted w n h) q (rw (length-bytes w n) e)
 
-    pub part : (w : ℕ) (r : Rule) (p : List ℕ) → Left d whole out at (join (counted w r ∷ fs) (p, ps) ++ z) → Obeys (counted w r) p
-        → out′ ≡ written (fieldText (counted w r) p) at out → at′ ≡ at + (w + length p) → Left d whole out′ at′ (join fs ps ++ z)
-    part w r p l o q e = and (counted w r) p l (text-obeys (counted w r) p o) q (rw (length-counted w r p) e)
+  pub part : (at′ : ℕ) (rest : List ℕ) (w : ℕ) (r : Rule) (p : List ℕ) → Left d whole out at (fieldBytes (counted w r) p ++ rest) → Obeys (counted w r) p
+      → out′ ≡ written (fieldText (counted w r) p) at out → at′ ≡ at + (w + length p) → Left d whole out′ at′ rest
+  part at′ rest w r p l o q e = and at′ rest (counted w r) p l (text-obeys (counted w r) p o) q (rw (length-counted w r p) e)
 
-  -- the field behind the last
-  pub close : (f : Field) (p : List ℕ) → Left d whole out at (join [] tt ++ fieldBytes f p) → Obeys f p → out′ ≡ written (fieldText f p) at out → out′ ≡ put d 0 whole
-  unfolding join
+  pub close : (f : Field) (p : List ℕ) → Left d whole out at (fieldBytes f p) → Obeys f p → out′ ≡ written (fieldText f p) at out → out′ ≡ put d 0 whole
   close f p l o q = end l (text-obeys f p o) out′ q

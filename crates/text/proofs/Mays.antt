@@ -1,19 +1,18 @@
 -- Whether a hello may be written, part by part: what is left to be asked once the parts so far may stand. A proof adds one `and` for each
 -- part, answers each early return by one `stop`, and the last answer by `end`. Assumes nothing.
 use Prim.Native.Nat.{ℕ}
-use mathlib.Core.Path.{_≡_, refl, sym, _∙_}
+use mathlib.Core.Path.{_≡_, refl, ap, sym, _∙_}
 use mathlib.Core.List.{List, [], _∷_}
 use mathlib.Core.Bool.{Bool, true, false, not}
 use borrow.Author.Tests.{not-true, not-false}
 use lib.ListN.{drop}
 use Rattle.wire.specs.Parts.{pick}
 use Rattle.wire.proofs.Numbers.{length-bytes}
-use Rattle.field.specs.Fields.{Field}
 use Rattle.field.specs.Texts.{both, allowed}
-use Rattle.grammar.specs.Grammars.{Each}
+use Rattle.grammar.specs.Grammars.{asView, asOpt, asNumber, Row, gather}
 use Rattle.grammar.specs.Hellos.{extensions}
-use Rattle.grammar.specs.Forms.{Form, How, asView, asPart, asNumber, Outs}
-use Rattle.text.specs.Hellos.{mayStand, allMay, mayWrite}
+use Rattle.grammar.specs.Forms.{Form, Outs}
+use Rattle.text.specs.Hellos.{mayStand, mayWrite}
 
 -- all of some tests, and then a last one
 abbrev all : List Bool → Bool → Bool
@@ -21,26 +20,22 @@ all [] z = z
 all (b ∷ bs) z = both b (all bs z)
 
 -- whether each part may stand; a number as wide as its field always may, and is not asked
-abbrev parts : (fs : List Field) (ms : Each How fs) → List ℕ → Outs fs ms → List Bool
-parts [] ms s os = []
-parts (f ∷ fs) (asView, ms) s (o, os) = mayStand f asView s o ∷ parts fs ms s os
-parts (f ∷ fs) (asPart, ms) s (o, os) = mayStand f asPart s o ∷ parts fs ms s os
-parts (f ∷ fs) (asNumber w, ms) s (o, os) = pick (allowed f w) (parts fs ms s os) (false ∷ [])
+abbrev parts : (rs : List Row) → List ℕ → Outs rs → List Bool
+parts [] s os = []
+parts ((f, asView) ∷ rs) s (o, os) = mayStand f asView s o ∷ parts rs s os
+parts ((f, asOpt empty) ∷ rs) s (o, os) = mayStand f (asOpt empty) s o ∷ parts rs s os
+parts ((f, asNumber w) ∷ rs) s (o, os) = pick (allowed f w) (parts rs s os) (false ∷ [])
 
--- one part more, and one number
-one : (a b z : Bool) (bs : List Bool) → both b z ≡ all bs z → both (both a b) z ≡ all (a ∷ bs) z
-one true b z bs e = e
-one false b z bs e = refl
-
-number : (a b z : Bool) (bs : List Bool) → both b z ≡ all bs z → both (both a b) z ≡ all (pick a bs (false ∷ [])) z
+-- one number more
+number : (a b z : Bool) (bs : List Bool) → b ≡ all bs z → both a b ≡ all (pick a bs (false ∷ [])) z
 number true b z bs e = e
 number false b z bs e = refl
 
-parts-all : (fs : List Field) (ms : Each How fs) (s : List ℕ) (os : Outs fs ms) (z : Bool) → both (allMay fs ms s os) z ≡ all (parts fs ms s os) z
-parts-all [] ms s os z = refl
-parts-all (f ∷ fs) (asView, ms) s (o, os) z = one (mayStand f asView s o) (allMay fs ms s os) z (parts fs ms s os) (parts-all fs ms s os z)
-parts-all (f ∷ fs) (asPart, ms) s (o, os) z = one (mayStand f asPart s o) (allMay fs ms s os) z (parts fs ms s os) (parts-all fs ms s os z)
-parts-all (f ∷ fs) (asNumber w, ms) s (o, os) z = rw (length-bytes w o) (number (allowed f w) (allMay fs ms s os) z (parts fs ms s os) (parts-all fs ms s os z))
+parts-all : (rs : List Row) (s : List ℕ) (os : Outs rs) (z : Bool) → gather (λ (f, m) o rest. both (mayStand f m s o) rest) z rs os ≡ all (parts rs s os) z
+parts-all [] s os z = refl
+parts-all ((f, asView) ∷ rs) s (o, os) z = ap (both (mayStand f asView s o)) (parts-all rs s os z)
+parts-all ((f, asOpt empty) ∷ rs) s (o, os) z = ap (both (mayStand f (asOpt empty) s o)) (parts-all rs s os z)
+parts-all ((f, asNumber w) ∷ rs) s (o, os) z = rw (length-bytes w o) (number (allowed f w) _ z (parts rs s os) (parts-all rs s os z))
 
 -- what is left to be asked decides
 pub record Left (may : Bool) (bs : List Bool) (z : Bool) : Type 0 where
@@ -48,11 +43,11 @@ pub record Left (may : Bool) (bs : List Bool) (z : Bool) : Type 0 where
 
 -- n parts may stand
 abbrev pub Past : {C : Type 0} → ℕ → Form C → List ℕ → C → Type 0
-Past n k s c = Left (mayWrite k s c) (drop n (parts (k .grammar .fields) (k .how) s (k .handed c))) (mayStand extensions asPart s (k .block c))
+Past n k s c = Left (mayWrite k s c) (drop n (parts (k .grammar .rows) s (k .handed c))) (mayStand extensions (asOpt false) s (k .block c))
 
 pub begin : {C : Type 0} (k : Form C) (s : List ℕ) (c : C) → Past 0 k s c
 unfolding mayWrite
-begin k s c = record { is = parts-all (k .grammar .fields) (k .how) s (k .handed c) (mayStand extensions asPart s (k .block c)) }
+begin k s c = record { is = parts-all (k .grammar .rows) s (k .handed c) (mayStand extensions (asOpt false) s (k .block c)) }
 
 module _ {may b : Bool} {bs : List Bool} {z : Bool} (l : Left may (b ∷ bs) z) {t : Bool} (e : t ≡ b) where
   -- one part more

@@ -1,28 +1,29 @@
--- A message written: its body into the buffer lent from byte 4 on, then type and length before it. Assumes nothing.
+-- A message written: its body into the buffer lent from behind the head's place on, then the head before it; four bytes, or as many as
+-- another head has. Assumes nothing.
 use Prim.Native.Nat.{ℕ, _+_, _-_, _^_, _<_, _≤_}
-use mathlib.Core.Path.{_≡_, sym, ap, _∙_}
+use mathlib.Core.Path.{_≡_, refl, sym, ap, _∙_}
 use mathlib.Core.List.{List, [], _++_, append-assoc, append-nil}
-use mathlib.Core.Bool.{true, false}
+use mathlib.Core.Bool.{Bool, true, false}
 use native.Mathlib.Omega.{arith}
 use native.Mathlib.Nat.{zero-add}
-use borrow.Author.Tests.{lt-ltb, ltb-true}
+use borrow.Author.Tests.{ltb-true}
 use borrow.Rule.Slice.PartMut.{putMid, midOf}
 use lib.ListN.{length, take, drop, length-append, length-take, length-drop, drop-of-length-le}
 use lib.Dec.{ltb}
 use lib.Seq.{take-append-le, take-take, take-all, length-take-le, drop-at, drop-drop}
-use Rattle.refusal.specs.Answers.{Answer, accepted, refused}
-use Rattle.refusal.specs.Refusals.{refusal}
-use Rattle.refusal.specs.declared.Reason.the-variants.{NoRoom, BadLength}
+use Rattle.refusal.specs.Answers.{Answer, accepted, refused, then}
+use Rattle.refusal.specs.Refusals.{unplaced}
+use Rattle.refusal.specs.declared.Reason.the-variants.{BadLength}
 use Rattle.refusal.specs.declared.Refusal.{Refusal}
-use Rattle.wire.specs.Parts.{partAt}
+use Rattle.wire.specs.Parts.{pick}
 use Rattle.wire.specs.Numbers.{bytesOf, numberText}
-use Rattle.wire.specs.Puts.{put, room, written}
+use Rattle.wire.specs.Puts.{put, roomAt, room, written}
 use Rattle.wire.specs.declared.view.Part.{Part}
-use Rattle.wire.proofs.Parts.{fits}
+use Rattle.wire.proofs.Parts.{room-fits}
 use Rattle.wire.proofs.Numbers.{length-bytes}
 use Rattle.wire.proofs.Puts.{Came, text-refused, text-in, text-out, written-in, number-accepted, length-put}
-use Rattle.field.proofs.Texts.{text-may}
 use Rattle.field.specs.Fields.{sized}
+use Rattle.field.specs.Texts.{both, fieldText}
 use Rattle.text.specs.Messages.{headText, messageText}
 use Rattle.text.proofs.Fields.{begin, next, end}
 
@@ -43,29 +44,43 @@ head-is kind n h = rw (number-accepted 3 n h)
 
 -- writing them: a length that three bytes cannot hold, no room, and one number behind the other
 module _ (kind n : ℕ) (d : List ℕ) where
-  pub head-not : {r : Refusal} → ltb n (256 ^ 3) ≡ false → r ≡ refusal BadLength 0 0 → Came (headText kind n) 0 d (refused r) d
+  pub head-not : {r : Refusal} → ltb n (256 ^ 3) ≡ false → r ≡ unplaced BadLength → Came (headText kind n) 0 d (refused r) d
   unfolding headText numberText
   head-not e q = text-refused 0 d (rw (e, q))
 
   module _ (h : ltb n (256 ^ 3) ≡ true) where
-    pub head-out : {r : Refusal} → partAt NoRoom d 0 4 ≡ refused r → Came (headText kind n) 0 d (refused r) d
+    pub head-out : {r : Refusal} → roomAt d 0 4 ≡ refused r → Came (headText kind n) 0 d (refused r) d
     head-out {r} q = text-out (headBytes kind n) 0 d {r = r} (head-is kind n (ltb-true _ _ h)) (rw (length-head kind n) q)
 
-    pub head-in : {p : Part} (o o′ : List ℕ) → kind < 256 → partAt NoRoom d 0 4 ≡ accepted p
+    pub head-in : {p : Part} (o o′ : List ℕ) → kind < 256 → roomAt d 0 4 ≡ accepted p
         → o ≡ written (numberText 1 kind) 0 d → o′ ≡ written (numberText 3 n) 1 o → Came (headText kind n) 0 d (accepted (p .next)) o′
     head-in {p} o o′ k q e₁ e₂ =
-        let f = fits NoRoom d 0 4 q .inside in
+        let f = room-fits d 0 4 q .inside in
         let a = begin d (headBytes kind n) (rw (length-head kind n) f) in
         let b = next (bytesOf 1 kind) (bytesOf 3 n) a (number-accepted 1 kind k) o 1 e₁ (omega (arith, length-bytes 1 kind)) in
         let c = text-in (headBytes kind n) 0 d {p = p} (head-is kind n (ltb-true _ _ h)) (rw (length-head kind n) q) in
         record { says = c .says; leaves = c .leaves ∙ sym (end b (number-accepted 3 n (ltb-true _ _ h)) o′ e₂) }
 
--- the text of a message whose body is written
-pub message-is : (kind : ℕ) {body : Answer (List ℕ)} (b : List ℕ) → body ≡ accepted b → length b < 16777216 → messageText kind body ≡ accepted (headBytes kind (length b) ++ b)
+-- a message's text, over any head: that of its bytes, and none where the body has none
+pub message-is : (head : ℕ → Answer (List ℕ)) {body : Answer (List ℕ)} (h b : List ℕ) → head (length b) ≡ accepted h → body ≡ accepted b → messageText head body ≡ accepted (h ++ b)
 unfolding messageText
-message-is kind b e h =
-    let f = text-may (sized 3) b (rw (lt-ltb (length b) 16777216 h)) in
-    rw (e, f) (ap accepted (sym (append-assoc (bytesOf 1 kind) (bytesOf 3 (length b)) b)))
+message-is head h b p q = rw (q, p)
+
+pub message-refused : (head : ℕ → Answer (List ℕ)) {body : Answer (List ℕ)} (d : List ℕ) {r : Refusal} → body ≡ refused r → Came (messageText head body) 0 d (refused r) d
+unfolding messageText
+message-refused head d e = text-refused 0 d (rw e)
+
+-- with type and length before it, it is the type and the body behind a length of three bytes
+pub same-text : (kind : ℕ) (body : Answer (List ℕ)) → messageText (headText kind) body ≡ then body (λ b. then (fieldText (sized 3) b) (λ t. accepted (bytesOf 1 kind ++ t)))
+unfolding messageText headText numberText fieldText
+same-text kind (refused r) = refl
+same-text kind (accepted b) = go (ltb (length b) (256 ^ 3))
+  where
+    go : (t : Bool)
+        → then (then (pick t (accepted (bytesOf 3 (length b))) (refused (unplaced BadLength))) (λ n. accepted (bytesOf 1 kind ++ n))) (λ h. accepted (h ++ b))
+        ≡ then (pick (both t true) (accepted (bytesOf 3 (length b) ++ b)) (refused (unplaced BadLength))) (λ n. accepted (bytesOf 1 kind ++ n))
+    go true = ap accepted (append-assoc (bytesOf 1 kind) (bytesOf 3 (length b)) b)
+    go false = refl
 
 -- bytes put in right before others
 pub put-before : (d : List ℕ) (at : ℕ) (xs ys : List ℕ) → at + length xs + length ys ≤ length d → put (put d (at + length xs) ys) at xs ≡ put d at (xs ++ ys)
@@ -86,45 +101,47 @@ put-mid d a bs h =
     let e : drop (length d - a) (drop a d) ≡ [] = drop-of-length-le (drop a d) {i = length d - a} (rw length-drop (omega arith)) in
     rw (m, e, append-nil, zero-add, drop-drop)
 
--- a body that may be written: its bytes, and how many they are
-pub record Body (body : Answer (List ℕ)) (bs : List ℕ) (n : ℕ) : Type 0 where
+-- a message that may be written: a head of m bytes, and a body of n
+pub record Message (head : ℕ → Answer (List ℕ)) (m : ℕ) (body : Answer (List ℕ)) (bs : List ℕ) (n : ℕ) : Type 0 where
+  pub front : List ℕ
+  pub before : head n ≡ accepted front
+  pub wide : length front ≡ m
   pub is : body ≡ accepted bs
   pub long : n ≡ length bs
-  pub small : n < 16777216
 
--- it fits into what is lent from byte 4 on
-pub body-fits : {body : Answer (List ℕ)} {bs : List ℕ} {n : ℕ} (d : List ℕ) → Body body bs n → {p : Part} → partAt NoRoom d 0 (4 + n) ≡ accepted p → length bs ≤ length (midOf 4 (length d - 4) d)
-body-fits {n = n} d b q = rw (length-take, length-drop) (omega (arith, b .long, fits NoRoom d 0 (4 + n) q .inside))
+-- one with type and length for its head
+pub short-head : (kind : ℕ) {body : Answer (List ℕ)} {bs : List ℕ} {n : ℕ} → body ≡ accepted bs → n ≡ length bs → n < 16777216 → Message (headText kind) 4 body bs n
+short-head kind {n = n} e l h = record { front = headBytes kind n; before = head-is kind n h; wide = length-head kind n; is = e; long = l }
 
--- the message of a body, written: the body may not be, or there is no room, or it is put in from byte 4 on and then the head
-pub message-refused : (kind : ℕ) {body : Answer (List ℕ)} (d : List ℕ) {r : Refusal} → body ≡ refused r → Came (messageText kind body) 0 d (refused r) d
-unfolding messageText
-message-refused kind d e = text-refused 0 d (rw e)
+-- there is no room for it, or its body is put in behind the head's place, and then the head
+module _ {head : ℕ → Answer (List ℕ)} {m : ℕ} {body : Answer (List ℕ)} {bs : List ℕ} {n : ℕ} (d : List ℕ) (b : Message head m body bs n) where
+  whole-is : messageText head body ≡ accepted (b .front ++ bs)
+  whole-is = message-is head (b .front) bs (rw (← b .long) (b .before)) (b .is)
 
-module _ (kind : ℕ) {body : Answer (List ℕ)} {bs : List ℕ} {n : ℕ} (d : List ℕ) (b : Body body bs n) where
-  whole-is : messageText kind body ≡ accepted (headBytes kind n ++ bs)
-  whole-is = rw (b .long) (message-is kind bs (b .is) (rw (b .long) at (b .small)))
+  length-whole : length (b .front ++ bs) ≡ m + n
+  length-whole = rw (length-append, b .wide, ← b .long)
 
-  length-whole : length (headBytes kind n ++ bs) ≡ 4 + n
-  length-whole = rw (length-append, length-head kind n, ← b .long)
+  -- the body fits into what is lent from byte m on
+  pub body-fits : {p : Part} → roomAt d 0 (m + n) ≡ accepted p → length bs ≤ length (midOf m (length d - m) d)
+  body-fits q = rw (length-take, length-drop) (omega (arith, b .long, room-fits d 0 (m + n) q .inside))
 
-  pub message-out : {r : Refusal} → partAt NoRoom d 0 (4 + n) ≡ refused r → Came (messageText kind body) 0 d (refused r) d
-  message-out {r} q = text-out (headBytes kind n ++ bs) 0 d {r = r} whole-is (rw length-whole q)
+  pub message-out : {r : Refusal} → roomAt d 0 (m + n) ≡ refused r → Came (messageText head body) 0 d (refused r) d
+  message-out {r} q = text-out (b .front ++ bs) 0 d {r = r} whole-is (rw length-whole q)
 
-  -- the body lent from byte 4 on is ys, and the head is written before it
-  pub message-in : {p : Part} (ys out : List ℕ) → partAt NoRoom d 0 (4 + n) ≡ accepted p → ys ≡ put (midOf 4 (length d - 4) d) 0 bs
-      → out ≡ written (headText kind n) 0 (putMid 4 (length d - 4) d ys) → Came (messageText kind body) 0 d (accepted (p .next)) out
+  -- the body lent from byte m on is ys, and the head is written before it
+  pub message-in : {p : Part} (ys out : List ℕ) → roomAt d 0 (m + n) ≡ accepted p → ys ≡ put (midOf m (length d - m) d) 0 bs
+      → out ≡ written (head n) 0 (putMid m (length d - m) d ys) → Came (messageText head body) 0 d (accepted (p .next)) out
   message-in {p} ys out q y o =
-      let f : 4 + length bs ≤ length d = omega (arith, fits NoRoom d 0 (4 + n) q .inside, b .long) in
-      let l = length-head kind n in
-      let m : putMid 4 (length d - 4) d ys ≡ put d 4 bs = rw y (put-mid d 4 bs f) in
-      let k : length (put d 4 bs) ≡ length d = length-put d 4 bs f in
-      let w : out ≡ put (put d 4 bs) 0 (headBytes kind n) = o ∙ rw m (written-in (headBytes kind n) 0 (put d 4 bs) (head-is kind n (b .small)) (omega (arith, l, k))) in
-      let g : put (put d (0 + length (headBytes kind n)) bs) 0 (headBytes kind n) ≡ put d 0 (headBytes kind n ++ bs) = put-before d 0 (headBytes kind n) bs (omega (arith, l)) in
-      let c = text-in (headBytes kind n ++ bs) 0 d {p = p} whole-is (rw length-whole q) in
-      record { says = c .says; leaves = c .leaves ∙ sym (w ∙ rw l at g) }
+      let f : m + length bs ≤ length d = omega (arith, room-fits d 0 (m + n) q .inside, b .long) in
+      let w = b .wide in
+      let k : length (put d m bs) ≡ length d = length-put d m bs f in
+      let x : putMid m (length d - m) d ys ≡ put d m bs = rw y (put-mid d m bs f) in
+      let h : out ≡ put (put d m bs) 0 (b .front) = o ∙ rw x (written-in (b .front) 0 (put d m bs) (b .before) (omega (arith, w, k))) in
+      let g : put (put d (0 + length (b .front)) bs) 0 (b .front) ≡ put d 0 (b .front ++ bs) = put-before d 0 (b .front) bs (omega (arith, w)) in
+      let c = text-in (b .front ++ bs) 0 d {p = p} whole-is (rw length-whole q) in
+      record { says = c .says; leaves = c .leaves ∙ sym (h ∙ rw (zero-add, w) at g) }
 
   -- the same where one text puts the body in
-  pub message-by : {t : Answer (List ℕ)} {p : Part} (ys out : List ℕ) → t ≡ accepted bs → partAt NoRoom d 0 (4 + n) ≡ accepted p → ys ≡ written t 0 (midOf 4 (length d - 4) d)
-      → out ≡ written (headText kind n) 0 (putMid 4 (length d - 4) d ys) → Came (messageText kind body) 0 d (accepted (p .next)) out
-  message-by {p = p} ys out e q y o = message-in {p = p} ys out q (y ∙ written-in bs 0 (midOf 4 (length d - 4) d) e (omega (arith, body-fits d b q))) o
+  pub message-by : {t : Answer (List ℕ)} {p : Part} (ys out : List ℕ) → t ≡ accepted bs → roomAt d 0 (m + n) ≡ accepted p → ys ≡ written t 0 (midOf m (length d - m) d)
+      → out ≡ written (head n) 0 (putMid m (length d - m) d ys) → Came (messageText head body) 0 d (accepted (p .next)) out
+  message-by {p = p} ys out e q y o = message-in {p = p} ys out q (y ∙ written-in bs 0 (midOf m (length d - m) d) e (omega (arith, body-fits q))) o

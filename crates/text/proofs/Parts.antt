@@ -10,7 +10,7 @@ use Rattle.wire.specs.Parts.{partOf}
 use Rattle.wire.specs.declared.view.View.{View}
 use Rattle.field.specs.Fields.{Field}
 use Rattle.field.specs.Texts.{both, allowed}
-use Rattle.grammar.specs.Forms.{asView}
+use Rattle.grammar.specs.Grammars.{asView}
 use Rattle.text.specs.Hellos.{inside, mayStand}
 
 part-length : (s : List ℕ) (v : View) → inside s v ≡ true → length (partOf s v) ≡ v .len

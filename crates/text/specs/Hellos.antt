@@ -2,13 +2,9 @@
 -- the fields by which the hello is read, joined in order, and then the extensions: "absent extensions write 00 00". Its limits (random
 -- exactly 32, id at most 32, ciphers even and at most 65,534, methods at most 255, extensions at most 65,535) are the rules of the fields,
 -- `grammar/specs/Hellos.antt`.
-use Prim.Native.Nat.{ℕ, _+_}
-use mathlib.Core.List.{List, [], _∷_, _++_}
-use mathlib.Core.Bool.{Bool, true}
-use lib.ListN.{length}
-use lib.Dec.{leb}
+use Rattle.refusal.specs.Words.{ℕ, _+_, List, _++_, Bool, true, false, length, leb}
 use Rattle.refusal.specs.Answers.{Answer, accepted, refused}
-use Rattle.refusal.specs.Refusals.{refusal}
+use Rattle.refusal.specs.Refusals.{unplaced}
 use Rattle.refusal.specs.declared.Reason.the-variants.{BadLength}
 use Rattle.wire.specs.Parts.{pick, optPartOf}
 use Rattle.wire.specs.declared.view.View.{View}
@@ -16,10 +12,9 @@ use Rattle.wire.specs.declared.view.OptView.the-variants.{Absent, Present}
 use Rattle.field.specs.Fields.{Field}
 use Rattle.field.specs.Standing.{fieldBytes}
 use Rattle.field.specs.Texts.{both, allowed}
-use Rattle.grammar.specs.Grammars.{Each}
-use Rattle.grammar.specs.Splits.{join}
+use Rattle.grammar.specs.Grammars.{How, asView, asOpt, asNumber, gather}
 use Rattle.grammar.specs.Hellos.{extensions}
-use Rattle.grammar.specs.Forms.{Form, How, asView, asPart, asNumber, Out, Outs, named, allNamed}
+use Rattle.grammar.specs.Forms.{Form, Out, named}
 
 -- the view lies within the bytes
 abbrev pub inside : List ℕ → View → Bool
@@ -28,26 +23,22 @@ inside s v = leb (v .start + v .len) (length s)
 -- what was handed out of a field lies within the bytes lent with the value
 abbrev pub lies : (m : How) → List ℕ → Out m → Bool
 lies asView s v = inside s v
-lies asPart s Absent = true
-lies asPart s (Present v) = inside s v
+lies (asOpt empty) s Absent = true
+lies (asOpt empty) s (Present v) = inside s v
 lies (asNumber w) s n = true
 
 -- and may be written: the part that it names may stand in the field
 abbrev pub mayStand : Field → (m : How) → List ℕ → Out m → Bool
 mayStand f m s o = both (lies m s o) (allowed f (length (named m s o)))
 
-abbrev pub allMay : (fs : List Field) (ms : Each How fs) → List ℕ → Outs fs ms → Bool
-allMay [] ms s os = true
-allMay (f ∷ fs) (m, ms) s (o, os) = both (mayStand f m s o) (allMay fs ms s os)
-
 -- a hello may be written where each of its parts may, and its extensions
 unfoldable pub mayWrite : {C : Type 0} → Form C → List ℕ → C → Bool
-mayWrite k s c = both (allMay (k .grammar .fields) (k .how) s (k .handed c)) (mayStand extensions asPart s (k .block c))
+mayWrite k s c = gather (λ (f, m) o rest. both (mayStand f m s o) rest) (mayStand extensions (asOpt false) s (k .block c)) (k .grammar .rows) (k .handed c)
 
 -- the fields joined, and the extensions
 unfoldable pub helloBytes : {C : Type 0} → Form C → List ℕ → C → List ℕ
-helloBytes k s c = join (k .grammar .fields) (allNamed (k .grammar .fields) (k .how) s (k .handed c)) ++ fieldBytes extensions (optPartOf s (k .block c))
+helloBytes k s c = gather (λ (f, m) o rest. fieldBytes f (named m s o) ++ rest) (fieldBytes extensions (optPartOf s (k .block c))) (k .grammar .rows) (k .handed c)
 
 -- the bytes, or BadLength
 unfoldable pub helloText : {C : Type 0} → Form C → List ℕ → C → Answer (List ℕ)
-helloText k s c = pick (mayWrite k s c) (accepted (helloBytes k s c)) (refused (refusal BadLength 0 0))
+helloText k s c = pick (mayWrite k s c) (accepted (helloBytes k s c)) (refused (unplaced BadLength))

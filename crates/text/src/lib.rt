@@ -1,7 +1,8 @@
 // What is written of a value: whether its parts may be written, and a message's head.
+ghost use mathlib.Core.Bool.{false};
 ghost use mathlib.Core.Path.{_≡_};
 ghost use Rattle.field.specs.Fields.{Field, ruleOf};
-ghost use Rattle.grammar.specs.Forms.{How};
+ghost use Rattle.grammar.specs.Grammars.{How};
 ghost use Rattle.wire.specs.Numbers.{bytesIn};
 ghost use Rattle.wire.specs.Puts.{room, written, writeSays};
 ghost use Rattle.text.specs.Hellos.{inside, mayStand};
@@ -49,7 +50,7 @@ pub fn part_may(i: &[u8], v: View, w: Width, kind: Kind) -> bool
 
 // The same of a part that may be missing.
 pub fn opt_part_may(i: &[u8], v: OptView, w: Width, kind: Kind) -> bool
-    ensures { λ r. ⌜ r ≡ mayStand (Field.counted (bytesIn w) (ruleOf kind)) How.asPart (now (i .entry)) v ⌝ }
+    ensures { λ r. ⌜ r ≡ mayStand (Field.counted (bytesIn w) (ruleOf kind)) (How.asOpt false) (now (i .entry)) v ⌝ }
 {
     match v {
         OptView::Absent => field::may_follow(w, kind, 0),
@@ -63,7 +64,7 @@ pub fn gen_head(out: &mut [u8], kind: u8, n: usize) -> WriteAnswer
     ensures { λ _. ⌜ now (out .exit) ≡ written (headText kind n) 0 (now (out .entry)) ⌝ }
 {
     if wire::number::width_holds(Width::Three, n) {
-        match wire::view::take_or(out, 0, 4, Reason::NoRoom) {
+        match wire::output::room_for(out, 0, 4) {
             PartAnswer::Refused(r) => WriteAnswer::Refused(r),
             PartAnswer::Got(p) => {
                 wire::number::gen_be(out, 0, Width::One, kind as usize);
@@ -72,6 +73,6 @@ pub fn gen_head(out: &mut [u8], kind: u8, n: usize) -> WriteAnswer
             }
         }
     } else {
-        WriteAnswer::Refused(refusal::refuse(Reason::BadLength, 0, 0))
+        WriteAnswer::Refused(refusal::unplaced(Reason::BadLength))
     }
 }

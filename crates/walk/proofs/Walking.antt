@@ -17,7 +17,7 @@ use Rattle.envelope.specs.Opening.{Met, metAt}
 use Rattle.envelope.specs.declared.TlsMessageHead.{TlsMessageHead}
 use Rattle.envelope.proofs.Heads.{met-lies}
 use Rattle.walk.specs.Walks.{messages, messagesFrom, pastAll, dropped, metHead, nextMessage, moved, walkAfter}
-use Rattle.walk.specs.Walking.{bytesOfAll, EveryWalk}
+use Rattle.walk.specs.Walking.{bytesOfAll, Walking}
 use Rattle.walk.specs.declared.TlsRecordWalk.{TlsRecordWalk}
 
 abbrev pub behind : Met → ℕ
@@ -147,5 +147,7 @@ module _ (s : List ℕ) where
   ends : (k : ℕ) → length s < k * 4 → nextMessage s (walkAfter k s) ≡ refused (refusal NoSuch 0 0)
   ends k h = meets k ∙ rw (place-past k (messages s) (omega (arith, h, steps)))
 
-pub every-walk : EveryWalk
-every-walk s = record { meets = meets s; tells = tells s; stays = stays s; whole = whole s; steps = steps s; ends = ends s }
+pub every-walk : (s : List ℕ) → Walking s
+every-walk s =
+    let more : (n : ℕ) → length s ≤ n → itemsFrom n (metAt s) behind 0 ≡ messages s = λ n h. fuel (by-messages s) n (length s) 0 (omega arith) (omega arith) in
+    record { meets = meets s; tells = tells s; stays = stays s; whole = whole s; steps = steps s; noneMore = more; ends = ends s }

@@ -1,14 +1,11 @@
 -- What is shown of the walk over every content: `proofs/Walking.antt`.
-use Prim.Native.Nat.{ℕ, suc, _+_, _*_, _<_, _≤_}
-use mathlib.Core.Path.{_≡_}
-use mathlib.Core.List.{List, [], _∷_}
-use lib.ListN.{length}
+use Rattle.refusal.specs.Words.{ℕ, suc, _+_, _*_, _<_, _≤_, _≡_, List, [], _∷_, length}
 use Rattle.refusal.specs.Answers.{accepted, refused, then}
 use Rattle.refusal.specs.Refusals.{refusal}
 use Rattle.refusal.specs.declared.Reason.the-variants.{NoSuch}
 use Rattle.refusal.specs.declared.Refusal.{Refusal}
-use Rattle.list.specs.Items.{place}
-use Rattle.envelope.specs.Opening.{Met}
+use Rattle.list.specs.Items.{itemsFrom, place}
+use Rattle.envelope.specs.Opening.{Met, metAt}
 use Rattle.walk.specs.Walks.{messages, dropped, nextMessage, moved, walkAfter}
 use Rattle.walk.specs.declared.TlsRecordWalk.{TlsRecordWalk}
 
@@ -27,8 +24,7 @@ pub record Walking (content : List ℕ) : Type 0 where
   -- steps in proportion: each byte is one message's or is dropped, and each message has four at least
   pub whole : bytesOfAll (messages content) + dropped content ≡ length content
   pub steps : length (messages content) * 4 ≤ length content
+  -- the bound never ends them: by a larger one no more are found
+  pub noneMore : (n : ℕ) → length content ≤ n → itemsFrom n (metAt content) (λ x. x .head .next) 0 ≡ messages content
   -- so that a walk over n bytes is at its end after n / 4 calls
   pub ends : (k : ℕ) → length content < k * 4 → nextMessage content (walkAfter k content) ≡ refused (refusal NoSuch 0 0)
-
-abbrev pub EveryWalk : Type 0
-EveryWalk = (content : List ℕ) → Walking content

@@ -1,10 +1,7 @@
 -- The messages of a handshake record's content, and the walk over them. Document 01: "Later messages are taken until one is refused; the
 -- bytes from there on are dropped, and their number is told", and "The record walk hands back the next message and the walk moved on; past
 -- the last message it answers NoSuch and stays."
-use Prim.Native.Nat.{ℕ, zero, suc, _-_}
-use mathlib.Core.Path.{_≡_}
-use mathlib.Core.List.{List, [], _∷_}
-use lib.ListN.{length}
+use Rattle.refusal.specs.Words.{ℕ, zero, suc, _-_, _≡_, List, [], _∷_, length}
 use Rattle.refusal.specs.Answers.{Answer, accepted, refused, then}
 use Rattle.list.specs.Items.{itemsFrom, orNoSuch}
 use Rattle.message.specs.declared.handshake.TlsMessageHandshake.{TlsMessageHandshake}

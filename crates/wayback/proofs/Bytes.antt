@@ -14,10 +14,9 @@ use Rattle.wire.specs.declared.view.OptView.{OptView}
 use Rattle.wire.specs.declared.view.OptView.the-variants.{Absent, Present}
 use Rattle.field.specs.Fields.{Field, fixed, counted}
 use Rattle.field.specs.Standing.{fieldBytes}
-use Rattle.grammar.specs.Grammars.{Each}
-use Rattle.grammar.specs.Splits.{join}
+use Rattle.grammar.specs.Grammars.{How, asView, asOpt, asNumber, Row, gather}
 use Rattle.grammar.specs.Hellos.{extensions}
-use Rattle.grammar.specs.Forms.{Form, How, asView, asPart, asNumber, Out, Outs, named, allNamed}
+use Rattle.grammar.specs.Forms.{Form, Out, Outs, named}
 use Rattle.text.specs.Hellos.{helloBytes}
 
 no-bytes : Bytes []
@@ -56,20 +55,17 @@ bytes-opt s (Present v) b = bytes-part s v b
 
 bytes-named : (m : How) (s : List ℕ) (o : Out m) → Bytes s → Bytes (named m s o)
 bytes-named asView s v b = bytes-part s v b
-bytes-named asPart s o b = bytes-opt s o b
+bytes-named (asOpt empty) s o b = bytes-opt s o b
 bytes-named (asNumber w) s n b = bytes-number w n
 
 pub bytes-field : (f : Field) (p : List ℕ) → Bytes p → Bytes (fieldBytes f p)
 bytes-field (fixed n) p b = b
 bytes-field (counted w r) p b = bytes-append (bytesOf w (length p)) p (bytes-number w (length p)) b
 
-bytes-join : (fs : List Field) (ms : Each How fs) (s : List ℕ) (os : Outs fs ms) → Bytes s → Bytes (join fs (allNamed fs ms s os))
-unfolding join
-bytes-join [] ms s os b = no-bytes
-bytes-join (f ∷ fs) (m, ms) s (o, os) b = bytes-append (fieldBytes f (named m s o)) _ (bytes-field f (named m s o) (bytes-named m s o b)) (bytes-join fs ms s os b)
+bytes-rows : (rs : List Row) (s : List ℕ) (os : Outs rs) (z : List ℕ) → Bytes s → Bytes z → Bytes (gather (λ (f, m) o rest. fieldBytes f (named m s o) ++ rest) z rs os)
+bytes-rows [] s os z b y = y
+bytes-rows ((f, m) ∷ rs) s (o, os) z b y = bytes-append (fieldBytes f (named m s o)) _ (bytes-field f (named m s o) (bytes-named m s o b)) (bytes-rows rs s os z b y)
 
 pub hello-bytes : {C : Type 0} (k : Form C) (s : List ℕ) (c : C) → Bytes s → Bytes (helloBytes k s c)
 unfolding helloBytes
-hello-bytes k s c b =
-    bytes-append (join (k .grammar .fields) (allNamed (k .grammar .fields) (k .how) s (k .handed c))) _
-    (bytes-join (k .grammar .fields) (k .how) s (k .handed c) b) (bytes-field extensions (optPartOf s (k .block c)) (bytes-opt s (k .block c) b))
+hello-bytes k s c b = bytes-rows (k .grammar .rows) s (k .handed c) _ b (bytes-field extensions (optPartOf s (k .block c)) (bytes-opt s (k .block c) b))

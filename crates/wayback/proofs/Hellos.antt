@@ -3,40 +3,38 @@
 use Prim.Native.Nat.{ℕ, _+_, _-_, _<_, _≤_}
 use mathlib.Core.Path.{_≡_, refl, sym, ap, _∙_}
 use mathlib.Core.List.{List, [], _∷_, _++_, append-assoc, append-nil}
-use mathlib.Core.Bool.{true}
+use mathlib.Core.Bool.{Bool, true, false}
 use mathlib.Core.Option.{Option, none, some}
 use native.Mathlib.Omega.{arith}
-use native.Mathlib.Nat.{zero-add, sub-zero}
+use native.Mathlib.Nat.{zero-add}
 use borrow.Author.Tests.{le-leb}
 use lib.ListN.{length, take, drop, length-append, length-drop}
 use lib.Seq.{take-at, length-take-le}
-use Rattle.refusal.specs.Answers.{Answer, accepted, refused}
-use Rattle.refusal.specs.Refusals.{refusal}
-use Rattle.refusal.specs.declared.Reason.the-variants.{NoRoom}
+use Rattle.refusal.specs.Answers.{accepted}
 use Rattle.wire.specs.Numbers.{Bytes, bytesOf}
 use Rattle.wire.specs.Parts.{optPartOf}
-use Rattle.wire.specs.Puts.{put, room, written}
+use Rattle.wire.specs.Puts.{put}
 use Rattle.wire.specs.declared.view.View.{View}
 use Rattle.wire.specs.declared.view.OptView.{OptView}
 use Rattle.wire.specs.declared.view.OptView.the-variants.{Absent, Present}
-use Rattle.wire.proofs.Parts.{part-in, part-out}
+use Rattle.wire.proofs.Parts.{room-in, room-out}
 use Rattle.wire.proofs.Numbers.{length-bytes}
 use Rattle.wire.proofs.Puts.{text-in, text-out}
 use Rattle.field.specs.Fields.{Field}
 use Rattle.field.specs.Standing.{fieldBytes, Obeys}
+use Rattle.field.specs.Texts.{both}
 use Rattle.field.proofs.Texts as fields
-use Rattle.grammar.specs.Grammars.{Each}
+use Rattle.grammar.specs.Grammars.{How, asView, asOpt, asNumber, Row, gather}
 use Rattle.grammar.specs.Splits.{AllObey, join, blockBytes, BlockObeys, Split, blockOf, handedOf}
 use Rattle.grammar.specs.Hellos.{extensions}
-use Rattle.grammar.specs.Forms.{Form, How, asView, asPart, asNumber, Out, Outs, named, allNamed, ifThere, seen, allSeen, valueOf, reading, pieces}
-use Rattle.grammar.specs.Demand3.{InRow}
-use Rattle.grammar.specs.Lawful.{Lawful}
+use Rattle.grammar.specs.Forms.{Form, Out, Outs, named, allNamed, ifThere, seen, allSeen, valueOf, reading, pieces}
+use Rattle.grammar.specs.Demand3.{InRow, Lawful}
 use Rattle.grammar.proofs.Forms.{by-split}
-use Rattle.text.specs.Hellos.{inside, lies, mayStand, allMay, mayWrite, helloBytes, helloText}
-use Rattle.text.specs.Messages.{messageText}
-use Rattle.wayback.specs.Hellos.{added, back, WritesBack, blockAgain, tailAgain, again, ReadsAgain}
-use Rattle.text.proofs.Hellos.{Obeyed, obeyed, hello-may}
-use Rattle.text.proofs.Messages.{message-is}
+use Rattle.text.specs.Hellos.{inside, lies, mayStand, mayWrite, helloBytes, helloText}
+use Rattle.text.specs.Messages.{headText, messageText}
+use Rattle.wayback.specs.WayBack.{EveryText, framed, added, back, WritesBack, lastAgain, again, ReadsAgain}
+use Rattle.text.proofs.Hellos.{Obeyed, obeyed, hello-may, hello-joined}
+use Rattle.text.proofs.Messages.{headBytes, head-is, message-is}
 use Rattle.wayback.proofs.Bytes.{hello-bytes}
 use Rattle.wayback.proofs.Wrote.{hello-wrote}
 
@@ -56,20 +54,20 @@ view-lies s v vs tail h r = le-leb (v .start + v .len) (length s) (omega (arith,
 -- what was handed out of a field lies within the bytes, and the views after it are in a row
 seen-lies : (m : How) (s : List ℕ) (o : Out m) (vs : List View) (from tail : ℕ) → tail ≤ length s → InRow from (seen m o vs) tail → (lies m s o ≡ true) × ((n : ℕ) × InRow n vs tail)
 seen-lies asView s v vs from tail h (_, r) = (view-lies s v vs tail h r, (v .start + v .len, r))
-seen-lies asPart s Absent vs from tail h r = (refl, (from, r))
-seen-lies asPart s (Present v) vs from tail h (_, r) = (view-lies s v vs tail h r, (v .start + v .len, r))
+seen-lies (asOpt empty) s Absent vs from tail h r = (refl, (from, r))
+seen-lies (asOpt empty) s (Present v) vs from tail h (_, r) = (view-lies s v vs tail h r, (v .start + v .len, r))
 seen-lies (asNumber w) s n vs from tail h r = (refl, (from, r))
 
 -- so it may stand in its field
 may : (f : Field) (m : How) (s : List ℕ) (o : Out m) → lies m s o ≡ true → Obeys f (named m s o) → mayStand f m s o ≡ true
 may f m s o l p = rw l (fields.obeyed f (named m s o) p)
 
-all-may : (fs : List Field) (ms : Each How fs) (s : List ℕ) (os : Outs fs ms) (vs : List View) (from tail : ℕ) → tail ≤ length s → AllObey fs (allNamed fs ms s os)
-    → InRow from (allSeen fs ms os vs) tail → (allMay fs ms s os ≡ true) × ((n : ℕ) × InRow n vs tail)
-all-may [] ms s os vs from tail h p r = (refl, (from, r))
-all-may (f ∷ fs) (m, ms) s (o, os) vs from tail h (p, ps) r =
-    let l = seen-lies m s o (allSeen fs ms os vs) from tail h r in
-    let i = all-may fs ms s os vs (l .1 .0) tail h ps (l .1 .1) in
+all-may : (rs : List Row) (s : List ℕ) (os : Outs rs) (z : Bool) (vs : List View) (from tail : ℕ) → tail ≤ length s → AllObey rs (allNamed rs s os) → InRow from (allSeen rs os vs) tail
+    → (gather (λ (f, m) o rest. both (mayStand f m s o) rest) z rs os ≡ z) × ((n : ℕ) × InRow n vs tail)
+all-may [] s os z vs from tail h p r = (refl, (from, r))
+all-may ((f, m) ∷ rs) s (o, os) z vs from tail h (p, ps) r =
+    let l = seen-lies m s o (allSeen rs os vs) from tail h r in
+    let i = all-may rs s os z vs (l .1 .0) tail h ps (l .1 .1) in
     (rw (may f m s o (l .0) p) (i .0), i .1)
 
 -- the block that was found is one of extensions, and an absent one is written as 00 00
@@ -100,43 +98,44 @@ module _ {C : Type 0} (k : Form C) (law : Lawful k) (ofHello : OfHello (k .gramm
       let t = by-split k law body bytes in
       let y = t .splits c e in
       let r = t .order c e in
-      let f = all-may (k .grammar .fields) (k .how) body (k .handed c) (ifThere (k .block c) []) 0 (k .tail c) (r .1) (y .obey) (r .0) in
-      let l = seen-lies asPart body (k .block c) [] (f .1 .0) (k .tail c) (r .1) (f .1 .1) in
-      rw (f .0) (may extensions asPart body (k .block c) (l .0) (last-obeys (k .grammar .block) ofHello body (k .block c) _ (y .last)))
+      let f = all-may (k .grammar .rows) body (k .handed c) (mayStand extensions (asOpt false) body (k .block c)) (ifThere (k .block c) []) 0 (k .tail c) (r .1) (y .obey) (r .0) in
+      let l = seen-lies (asOpt false) body (k .block c) [] (f .1 .0) (k .tail c) (r .1) (f .1 .1) in
+      f .0 ∙ may extensions (asOpt false) body (k .block c) (l .0) (last-obeys (k .grammar .block) ofHello body (k .block c) _ (y .last))
 
   -- its bytes are those before the tail, and then 00 00 if there were no extensions
-  hello-back : helloBytes k body c ≡ take (k .tail c) body ++ added (k .block c)
-  unfolding helloBytes
+  hello-back : helloBytes k body c ≡ back k body c
   hello-back =
       let t = by-split k law body bytes in
       let y = t .splits c e in
-      let j = join (k .grammar .fields) (allNamed (k .grammar .fields) (k .how) body (k .handed c)) in
+      let j = join (k .grammar .rows) (allNamed (k .grammar .rows) body (k .handed c)) in
       let x = blockBytes (k .grammar .block) (blockOf body (k .block c)) in
-      rw (last-bytes (k .grammar .block) ofHello body (k .block c) _ (y .last), before body j x (k .tail c) (t .order c e .1) (y .whole)) (sym (append-assoc j x (added (k .block c))))
+      hello-joined k body c
+      ∙ rw (last-bytes (k .grammar .block) ofHello body (k .block c) _ (y .last), before body j x (k .tail c) (t .order c e .1) (y .whole)) (sym (append-assoc j x (added (k .block c))))
 
-  pub hello-length : length (helloBytes k body c) ≡ k .tail c + length (added (k .block c))
+  hello-length : length (helloBytes k body c) ≡ k .tail c + length (added (k .block c))
   hello-length = rw (hello-back, length-append, length-take-le (k .tail c) body (by-split k law body bytes .order c e .1))
 
-  pub text-back : (kind : ℕ) → length (helloBytes k body c) < 16777216 → messageText kind (helloText k body c) ≡ accepted (back k kind body c)
+  text-back : (kind : ℕ) → length (helloBytes k body c) < 16777216 → messageText (headText kind) (helloText k body c) ≡ accepted (framed kind (back k body c))
   text-back kind h =
       let b = helloBytes k body c in
-      message-is kind b (hello-may k body c may-write) h ∙ rw (append-assoc (bytesOf 1 kind) (bytesOf 3 (length b)) b, hello-back)
+      message-is (headText kind) (headBytes kind (length b)) b (head-is kind (length b) h) (hello-may k body c may-write)
+      ∙ rw (append-assoc (bytesOf 1 kind) (bytesOf 3 (length b)) b, hello-back)
 
-  back-length : (kind : ℕ) → length (back k kind body c) ≡ 4 + length (helloBytes k body c)
-  back-length kind = rw hello-back (simp (length-append, length-bytes) (omega arith))
+  framed-length : (kind : ℕ) → length (framed kind (back k body c)) ≡ 4 + length (helloBytes k body c)
+  framed-length kind = rw hello-back (simp (length-append, length-bytes) (omega arith))
 
--- a text that is accepted: with room for it, and without
-text-writes : (t : Answer (List ℕ)) (b out : List ℕ) → t ≡ accepted b → length b ≤ length out → (room t 0 out ≡ accepted (length b)) × (written t 0 out ≡ b ++ drop (length b) out)
+-- a text: with room for it, and without
+pub every-text : EveryText
 unfolding put
-text-writes t b out e h =
-    let z : 0 + length b ≡ length b = zero-add (length b) in
-    let w = text-in b 0 out e (part-in NoRoom out 0 (length b) (omega arith)) in
-    (rw z at (w .says), rw z at (w .leaves))
-
-text-short : (t : Answer (List ℕ)) (b out : List ℕ) → t ≡ accepted b → length out < length b → (room t 0 out ≡ refused (refusal NoRoom 0 (length b - length out))) × (written t 0 out ≡ out)
-text-short t b out e h =
-    let w = text-out b 0 out e (part-out NoRoom out 0 (length b) (omega arith)) in
-    (rw sub-zero at (w .says), w .leaves)
+every-text = record {
+  writes = λ t out h.
+      let z : 0 + length t ≡ length t = zero-add (length t) in
+      let w = text-in t 0 out refl (room-in out 0 (length t) (omega arith)) in
+      (rw z at (w .says), rw z at (w .leaves));
+  short = λ t out h.
+      let w = text-out t 0 out refl (room-out out 0 (length t) (omega arith)) in
+      (w .says, w .leaves);
+}
 
 -- demand 3, its writing half, where every hello that may be written has at most so many bytes
 pub writes-back : {C : Type 0} (k : Form C) → Lawful k → OfHello (k .grammar .block) → (kind most : ℕ) → most < 16777216 → (body : List ℕ) → Bytes body
@@ -145,36 +144,33 @@ writes-back {C} k law ofHello kind most h body bytes bound =
     record {
       bound = λ c e. omega (arith, fits c e, hello-length k law ofHello body bytes c e);
       text = text;
-      writes = λ c e out. text-writes (messageText kind (helloText k body c)) (back k kind body c) out (text c e);
-      short = λ c e out. text-short (messageText kind (helloText k body c)) (back k kind body c) out (text c e);
-      enough = λ c e out r. text-writes (messageText kind (helloText k body c)) (back k kind body c) out (text c e) (omega (arith, fits c e, back-length k law ofHello body bytes c e kind)) .0;
+      enough = λ c e out r. rw (text c e) (every-text .writes (framed kind (back k body c)) out (omega (arith, fits c e, framed-length k law ofHello body bytes c e kind)) .0);
     }
   where
     fits : (c : C) → reading k body ≡ accepted c → length (helloBytes k body c) ≤ most
     fits c e = bound c (obeyed k body c (may-write k law ofHello body bytes c e))
 
-    text : (c : C) → reading k body ≡ accepted c → messageText kind (helloText k body c) ≡ accepted (back k kind body c)
+    text : (c : C) → reading k body ≡ accepted c → messageText (headText kind) (helloText k body c) ≡ accepted (framed kind (back k body c))
     text c e = text-back k law ofHello body bytes c e kind (omega (arith, fits c e))
 
 -- a second reading takes the extensions for the block, or where there is none for the tail
-obeys-again : (b : Option Field) → OfHello b → (e : List ℕ) → Obeys extensions e → BlockObeys b (blockAgain b e) (tailAgain b e)
+obeys-again : (b : Option Field) → OfHello b → (e : List ℕ) → Obeys extensions e → BlockObeys b (lastAgain b e .0) (lastAgain b e .1)
 obeys-again none h e o = tt
 obeys-again (some f) h e o = rw h o
 
-last-again : (b : Option Field) → OfHello b → (e : List ℕ) → fieldBytes extensions e ≡ blockBytes b (blockAgain b e) ++ tailAgain b e
+last-again : (b : Option Field) → OfHello b → (e : List ℕ) → fieldBytes extensions e ≡ blockBytes b (lastAgain b e .0) ++ lastAgain b e .1
 last-again none h e = refl
 last-again (some f) h e = rw (h, append-nil)
 
 -- and what is read of what was written
 pub reads-again : {C : Type 0} (k : Form C) → Lawful k → OfHello (k .grammar .block) → (s : List ℕ) → Bytes s → (c : C) → ReadsAgain k s c
-unfolding helloBytes
 reads-again k law ofHello s bytes c b e =
     let w = hello-wrote k s c e in
-    let j = join (k .grammar .fields) (allNamed (k .grammar .fields) (k .how) s (k .handed c)) in
+    let j = join (k .grammar .rows) (allNamed (k .grammar .rows) s (k .handed c)) in
     let x = optPartOf s (k .block c) in
     let y : Split (k .grammar) b (again k s c) = record {
       obey = w .0 .fields;
-      whole = sym (w .1) ∙ ap (λ (r : List ℕ). j ++ r) (last-again (k .grammar .block) ofHello x);
+      whole = sym (w .1) ∙ hello-joined k s c ∙ ap (λ (r : List ℕ). j ++ r) (last-again (k .grammar .block) ofHello x);
       last = obeys-again (k .grammar .block) ofHello x (w .0 .last);
     } in
     let t = by-split k law b (rw (w .1) at (hello-bytes k s c bytes)) in

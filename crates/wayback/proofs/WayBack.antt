@@ -23,42 +23,37 @@ use Rattle.field.proofs.Steps.{length-counted, step-of, view-of}
 use Rattle.field.specs.Texts.{allowed}
 use Rattle.field.proofs.Texts.{obeys}
 use Rattle.grammar.specs.Splits.{join, Pieces, Split, viewsOf}
-use Rattle.grammar.specs.Forms.{Form, pieces}
-use Rattle.grammar.specs.Versions.{byVersion}
+use Rattle.grammar.specs.Forms.{Form, pieces, byVersion}
 use Rattle.client.specs.Client.{client}
-use Rattle.server.specs.Server.{server, serverVersions}
-use Rattle.server.specs.Draft18.{draft18}
+use Rattle.server.specs.Server.{server, serverVersions, draft18}
 use Rattle.server.specs.declared.tlsv12.TlsServerHelloContents.{TlsServerHelloContents}
-use Rattle.message.specs.declared.keyexchange.TlsClientKeyExchangeContents.{TlsClientKeyExchangeContents}
-use Rattle.message.specs.declared.keyexchange.TlsClientKeyExchangeContents.the-variants.{Dh, Ecdh, Unknown}
+use Rattle.message.specs.declared.keyexchange.TlsClientKeyExchangeContents.the-variants.{Unknown}
 use Rattle.message.specs.declared.handshake.TlsMessageHandshake.{TlsMessageHandshake}
 use Rattle.message.specs.declared.handshake.TlsMessageHandshake.the-variants.{HelloRequest, ClientKeyExchange, Finished}
-use Rattle.hellos.specs.Hellos.{helloRequestMessage, clientMessage}
-use Rattle.hellos.specs.Demand3.{IsDraft18}
+use Rattle.hellos.specs.Hellos.{IsDraft18}
 use Rattle.hellos.proofs.Opened as hellos
-use Rattle.envelope.specs.Heads.{headAt}
-use Rattle.envelope.specs.Opening.{opened, byType, metAt}
+use Rattle.envelope.specs.Opening.{headAt, opened, byType, byTypeIn, metAt}
+use Rattle.envelope.proofs.Heads.{in-got}
 use Rattle.envelope.proofs.Whole.{whole-body}
 use Rattle.record.specs.Records.{fragment, raw}
 use Rattle.record.proofs.Whole.{all-records}
 use Rattle.record.specs.declared.TlsRecordHeader.{TlsRecordHeader}
 use Rattle.text.specs.Hellos.{helloText}
-use Rattle.text.specs.Messages.{messageText, viewText}
-use Rattle.wayback.specs.Hellos.{again}
-use Rattle.wayback.proofs.Wrote.{picked, message-wrote, hello-wrote, view-wrote, sized-wrote}
+use Rattle.text.specs.Messages.{headText, messageText, viewText}
+use Rattle.wayback.proofs.Wrote.{picked, message-wrote, hello-wrote, view-wrote}
 use Rattle.wayback.proofs.Bytes.{bytes-append, bytes-number, bytes-field}
 use Rattle.gendraft18.proofs.Lengths.{draft18-length}
 use Rattle.genpart.specs.Exchange.{exchangeText}
 use Rattle.genmessage.specs.Messages.{handshakeText}
 use Rattle.genrecord.specs.Records.{recordBytes, recordText}
-use Rattle.wayback.proofs.Demand3.{draft18-version, demand3}
-use Rattle.wayback.specs.WayBack.{Found, ReadsHello, wholeOf, exchangeBody, Messages, InRecord, WayBack}
+use Rattle.wayback.proofs.Demand3.{draft18-version, one-text, again-client, again-server, again-draft18, again-by-version}
+use Rattle.wayback.specs.WayBack.{framed, again, Found, ReadsHello, wholeOf, Messages, InRecord, WayBack}
 
 -- the message at the front
-every : (kind : ℕ) (b rest : List ℕ) → kind < 256 → length b < 16777216 → Found kind b (byType kind b) (bytesOf 1 kind ++ (bytesOf 3 (length b) ++ b)) rest
+every : (kind : ℕ) (b rest : List ℕ) → kind < 256 → length b < 16777216 → Found kind b (byTypeIn 0 4 kind b) (framed kind b) rest
 unfolding metAt headAt
 every kind b rest h o =
-    let s = (bytesOf 1 kind ++ fieldBytes (sized 3) b) ++ rest in
+    let s = framed kind b ++ rest in
     let a : s ≡ bytesOf 1 kind ++ (fieldBytes (sized 3) b ++ rest) = append-assoc (bytesOf 1 kind) (fieldBytes (sized 3) b) rest in
     let l : length s ≡ 4 + length b + length rest = simp (length-append, length-bytes) (omega arith) in
     let d : drop 1 s ≡ fieldBytes (sized 3) b ++ rest = rw a (drop-at (bytesOf 1 kind) (fieldBytes (sized 3) b ++ rest) 1 (length-bytes 1 kind)) in
@@ -69,58 +64,56 @@ every kind b rest h o =
     let z : 1 + length (fieldBytes (sized 3) b) ≡ 4 + length b = omega (arith, length-counted 3 (ruleOf Plain) b) in
     record { whole = simp (length-append, length-bytes) (omega arith); met = rw (n, k, p, z, v); bytes = v }
 
-texts : (kind : ℕ) (body : Answer (List ℕ)) (t : List ℕ) → messageText kind body ≡ accepted t
-    → (b : List ℕ) × (body ≡ accepted b) × (length b < 16777216) × (bytesOf 1 kind ++ (bytesOf 3 (length b) ++ b) ≡ t)
+texts : (kind : ℕ) (body : Answer (List ℕ)) (t : List ℕ) → messageText (headText kind) body ≡ accepted t
+    → (b : List ℕ) × (body ≡ accepted b) × (length b < 16777216) × (framed kind b ≡ t)
 texts kind body t e = let w = message-wrote kind body e in (w .bytes, w .is, w .obeys .0, w .whole)
 
 -- a text and the message in it
-written : (kind : ℕ) (body : Answer (List ℕ)) (t rest : List ℕ) → kind < 256 → messageText kind body ≡ accepted t → (b : List ℕ) × (body ≡ accepted b) × Found kind b (byType kind b) t rest
+written : (kind : ℕ) (body : Answer (List ℕ)) (t rest : List ℕ) → kind < 256 → messageText (headText kind) body ≡ accepted t → (b : List ℕ) × (body ≡ accepted b) × Found kind b (byTypeIn 0 4 kind b) t rest
 written kind body t rest h e =
     let w = texts kind body t e in
     (w .0, w .1, rw (w .3) at (every kind (w .0) rest h (w .2)))
 
 -- where the body is known, and what it is opened as
-known-body : (kind : ℕ) (body : Answer (List ℕ)) (t rest b : List ℕ) (m : TlsMessageHandshake) → kind < 256 → messageText kind body ≡ accepted t → ((x : List ℕ) → body ≡ accepted x → b ≡ x)
+known-body : (kind : ℕ) (body : Answer (List ℕ)) (t rest b : List ℕ) (m : TlsMessageHandshake) → kind < 256 → messageText (headText kind) body ≡ accepted t → ((x : List ℕ) → body ≡ accepted x → b ≡ x)
     → byType kind b ≡ accepted m → Found kind b (accepted m) t rest
 known-body kind body t rest b m h e is q =
     let w = written kind body t rest h e in
-    let f : Found kind b (byType kind b) t rest = rw (is (w .0) (w .1)) (w .2) in
-    rw q at f
+    let f : Found kind b (byTypeIn 0 4 kind b) t rest = rw (is (w .0) (w .1)) (w .2) in
+    rw (in-got 0 4 kind b q) at f
 
 all : (b : List ℕ) → partOf b (wholeOf b) ≡ b
 all b = rw (le-leb (0 + length b) (length b) (omega arith)) (take-length b)
 
-exchange-is : (s : List ℕ) (k : TlsClientKeyExchangeContents) (x : List ℕ) → exchangeText s k ≡ accepted x → exchangeBody s k ≡ x
-exchange-is s (Unknown v) x d = view-wrote s v d
-exchange-is s (Dh v) x d = sized-wrote 2 s v d
-exchange-is s (Ecdh v) x d = sized-wrote 1 s v d
-
 -- a hello that reading by its form finds again
-hello : {C : Type 0} (k : Form C) (kind : ℕ) (make : C → TlsMessageHandshake) (s : List ℕ) (c : C) (text : Answer (List ℕ)) (t rest : List ℕ) → kind < 256 → messageText kind text ≡ accepted t
+hello : {C : Type 0} (k : Form C) (kind : ℕ) (make : C → TlsMessageHandshake) (s : List ℕ) (c : C) (text : Answer (List ℕ)) (t rest : List ℕ) → kind < 256 → messageText (headText kind) text ≡ accepted t
     → ((b : List ℕ) → text ≡ accepted b → (d : C) × (byType kind b ≡ accepted (make d)) × (pieces k b d ≡ again k s c)) → ReadsHello k kind make s c t rest
 hello k kind make s c text t rest h e f =
     let w = written kind text t rest h e in
     let a = f (w .0) (w .1) in
-    record { body = w .0; found = a .0; reads = rw (a .1) at (w .2); same = a .2 }
+    record { body = w .0; found = a .0; reads = rw (in-got 0 4 kind (w .0) (a .1)) at (w .2); same = a .2 }
 
 -- one whose version announces a form is none of draft 18
 not-draft18 : (b : List ℕ) (d : TlsServerHelloContents) → byVersion serverVersions b ≡ accepted d → IsDraft18 b → ⊥
 not-draft18 b d e i = not-both e (hellos.demand3 b .draft18Hello i .1)
 
 messages : (s rest : List ℕ) → Bytes s → Messages s rest
-unfolding handshakeText byType opened helloRequestMessage clientMessage
+unfolding handshakeText byType opened
 messages s rest bytes = record {
   helloRequest = λ t e. known-body 0x00 (accepted []) t rest [] HelloRequest (omega arith) e (λ x d. cc) refl;
   finished = λ v t e. known-body 0x14 (viewText s v) t rest (partOf s v) _ (omega arith) e (λ x d. view-wrote s v d) (whole-body (λ w. Finished w) (partOf s v));
-  clientKeyExchange = λ k t e. known-body 0x10 (exchangeText s k) t rest (exchangeBody s k) _ (omega arith) e (exchange-is s k) (whole-body (λ w. ClientKeyExchange (Unknown w)) (exchangeBody s k));
+  clientKeyExchange = λ k t e.
+      let w = written 0x10 (exchangeText s k) t rest (omega arith) e in
+      (w .0, w .1, rw (in-got 0 4 0x10 (w .0) (whole-body (λ v. ClientKeyExchange (Unknown v)) (w .0))) at (w .2));
   clientHello = λ c t e. hello client 0x01 _ s c (helloText client s c) t rest (omega arith) e (λ b q.
-      let a = demand3 .reading-again s bytes .clientHello c b q in
+      let a = again-client s bytes c b q in
       (a .0, rw (a .1), a .2));
   serverHello = λ hasExt c h v t e. hello (server hasExt) 0x02 _ s c (helloText (server true) s c) t rest (omega arith) e (λ b q.
-      let a = demand3 .reading-again s bytes .byItsVersion hasExt c h v b q in
-      (a .0, hellos.demand3 b .serverHello (not-draft18 b (a .0) (a .1)) ∙ rw (a .1), a .2));
+      let a = again-server hasExt s bytes c b (one-text hasExt s c ∙ q) in
+      let n : byVersion serverVersions b ≡ accepted (a .0) = again-by-version s c b h q ∙ rw v (a .1) in
+      (a .0, hellos.demand3 b .serverHello (not-draft18 b (a .0) n) ∙ rw n, a .2));
   draft18Hello = λ c v t e. hello draft18 0x02 _ s c (helloText draft18 s c) t rest (omega arith) e (λ b q.
-      let a = demand3 .reading-again s bytes .draft18Hello c b q in
+      let a = again-draft18 s bytes c b q in
       let w = hello-wrote draft18 s c q in
       let l : 2 ≤ length b = omega (arith, draft18-length s c (w .0), ap length (w .1)) in
       let n : be 2 b 0 ≡ 0x7f12 = rw (w .1) at (draft18-version s c (omega arith)) ∙ v in

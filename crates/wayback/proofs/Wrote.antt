@@ -1,6 +1,6 @@
 -- A text that was written: what held of the value, and which bytes the text is. Assumes nothing.
 use Prim.Native.Nat.{ℕ}
-use mathlib.Core.Path.{_≡_, refl, _∙_, ap}
+use mathlib.Core.Path.{_≡_, refl, sym, ap, _∙_}
 use mathlib.Core.List.{List, _++_}
 use mathlib.Core.Bool.{Bool, true, false}
 use lib.ListN.{length}
@@ -16,8 +16,9 @@ use Rattle.field.specs.Texts.{allowed, fieldText}
 use Rattle.field.proofs.Texts.{obeys}
 use Rattle.grammar.specs.Forms.{Form}
 use Rattle.text.specs.Hellos.{inside, mayWrite, helloBytes, helloText}
-use Rattle.text.specs.Messages.{messageText, viewText, sizedText}
+use Rattle.text.specs.Messages.{headText, messageText, viewText}
 use Rattle.text.proofs.Hellos.{Obeyed, obeyed}
+use Rattle.text.proofs.Messages.{same-text}
 
 -- the bytes, by a test
 pub picked : {A : Type 0} (t : Bool) {a b : A} (r : Refusal) → pick t (accepted a) (refused r) ≡ accepted b → (t ≡ true) × (a ≡ b)
@@ -36,12 +37,6 @@ pub view-wrote : (s : List ℕ) (v : View) {b : List ℕ} → viewText s v ≡ a
 unfolding viewText
 view-wrote s v e = picked (inside s v) _ e .1
 
-pub sized-wrote : (w : ℕ) (s : List ℕ) (v : View) {b : List ℕ} → sizedText w s v ≡ accepted b → fieldBytes (sized w) (partOf s v) ≡ b
-unfolding sizedText
-sized-wrote w s v e =
-    let t = then-accepted (viewText s v) (λ p. fieldText (sized w) p) e in
-    rw (view-wrote s v (t .1)) (field-wrote (sized w) (t .0) (t .2) .1)
-
 -- a message's body, and the message: type, length and body
 pub record Body (kind : ℕ) (body : Answer (List ℕ)) (t : List ℕ) : Type 0 where
   pub bytes : List ℕ
@@ -49,10 +44,9 @@ pub record Body (kind : ℕ) (body : Answer (List ℕ)) (t : List ℕ) : Type 0 
   pub obeys : Obeys (sized 3) bytes
   pub whole : bytesOf 1 kind ++ fieldBytes (sized 3) bytes ≡ t
 
-pub message-wrote : (kind : ℕ) (body : Answer (List ℕ)) {t : List ℕ} → messageText kind body ≡ accepted t → Body kind body t
-unfolding messageText
+pub message-wrote : (kind : ℕ) (body : Answer (List ℕ)) {t : List ℕ} → messageText (headText kind) body ≡ accepted t → Body kind body t
 message-wrote kind body {t} e =
-    let u = then-accepted body (λ b. then (fieldText (sized 3) b) (λ x. accepted (bytesOf 1 kind ++ x))) e in
+    let u = then-accepted body (λ b. then (fieldText (sized 3) b) (λ x. accepted (bytesOf 1 kind ++ x))) (sym (same-text kind body) ∙ e) in
     let w = then-accepted (fieldText (sized 3) (u .0)) (λ x. accepted (bytesOf 1 kind ++ x)) (u .2) in
     let f = field-wrote (sized 3) (u .0) (w .1) in
     let d : bytesOf 1 kind ++ w .0 ≡ t = cc (w .2) in

@@ -1,3 +1,1 @@
-pub mod Hellos
-pub mod Demand3
 pub mod WayBack

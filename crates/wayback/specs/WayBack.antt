@@ -1,47 +1,105 @@
--- What reading finds of what was written: of handshake messages and of records, whatever stands behind them. Of the hellos' bodies it is
--- said in `Demand3.antt`. Shown by `proofs/WayBack.antt`.
-use Prim.Native.Nat.{ℕ, _+_, _<_}
-use mathlib.Core.Path.{_≡_}
-use mathlib.Core.List.{List, [], _++_}
-use mathlib.Core.Bool.{Bool}
-use mathlib.Core.Option.{some}
-use lib.ListN.{length}
-use Rattle.refusal.specs.Answers.{Answer, accepted, then, within}
-use Rattle.wire.specs.Parts.{partOf}
+-- Demand 3, its writing half: what is written of a hello that was read, and what reading finds of hellos, messages and records that were
+-- written, whatever stands behind them. Shown by `proofs/Hellos.antt` for every form, `proofs/Demand3.antt` and `proofs/WayBack.antt`.
+use Rattle.refusal.specs.Words.{ℕ, _+_, _<_, _≤_, _≡_, List, [], _∷_, _++_, Bool, true, Option, none, some, length, take, drop}
+use Rattle.refusal.specs.Answers.{Answer, accepted, refused, giving}
+use Rattle.refusal.specs.Refusals.{unplaced}
+use Rattle.refusal.specs.declared.Reason.the-variants.{NoRoom}
+use Rattle.wire.specs.Parts.{partOf, optPartOf, lookup}
 use Rattle.wire.specs.Numbers.{Bytes, bytesOf}
+use Rattle.wire.specs.Puts.{room, written}
 use Rattle.wire.specs.declared.view.View.{View}
+use Rattle.wire.specs.declared.view.OptView.{OptView}
+use Rattle.wire.specs.declared.view.OptView.the-variants.{Absent, Present}
+use Rattle.field.specs.Fields.{Field}
 use Rattle.field.specs.Standing.{fieldBytes}
-use Rattle.grammar.specs.Forms.{Form, pieces, reading}
+use Rattle.grammar.specs.Hellos.{extensions}
+use Rattle.grammar.specs.Splits.{Pieces}
+use Rattle.grammar.specs.Forms.{Form, allNamed, pieces, reading, byVersion, ifListed}
 use Rattle.client.specs.Client.{client}
 use Rattle.client.specs.declared.TlsClientHelloContents.{TlsClientHelloContents}
-use Rattle.server.specs.Server.{server, serverVersions}
-use Rattle.server.specs.Draft18.{draft18}
+use Rattle.server.specs.Server.{server, serverVersions, draft18}
 use Rattle.server.specs.declared.tlsv12.TlsServerHelloContents.{TlsServerHelloContents}
 use Rattle.server.specs.declared.tlsv13draft18.TlsServerHelloV13Draft18Contents.{TlsServerHelloV13Draft18Contents}
 use Rattle.message.specs.declared.keyexchange.TlsClientKeyExchangeContents.{TlsClientKeyExchangeContents}
-use Rattle.message.specs.declared.keyexchange.TlsClientKeyExchangeContents.the-variants.{Dh, Ecdh, Unknown}
+use Rattle.message.specs.declared.keyexchange.TlsClientKeyExchangeContents.the-variants.{Unknown}
 use Rattle.message.specs.declared.handshake.TlsMessageHandshake.{TlsMessageHandshake}
 use Rattle.message.specs.declared.handshake.TlsMessageHandshake.the-variants.{HelloRequest, ClientHello, ServerHello, ServerHelloV13Draft18, ClientKeyExchange, Finished}
-use Rattle.envelope.specs.Opening.{byType, metAt}
-use Rattle.envelope.specs.declared.TlsMessageHead.{TlsMessageHead}
+use Rattle.envelope.specs.Opening.{byTypeIn, metAt}
 use Rattle.record.specs.Records.{raw}
 use Rattle.record.specs.declared.TlsRecordHeader.{TlsRecordHeader}
-use Rattle.field.specs.Fields.{sized}
-use Rattle.text.specs.Messages.{messageText}
-use Rattle.wayback.specs.Hellos.{again}
+use Rattle.text.specs.Hellos.{helloText}
+use Rattle.text.specs.Messages.{headText, messageText}
+use Rattle.genpart.specs.Exchange.{exchangeText}
 use Rattle.genmessage.specs.Messages.{handshakeText}
 use Rattle.genrecord.specs.Records.{recordText}
 
--- the head of a message at the front, with a body of n bytes
-abbrev pub headOf : ℕ → ℕ → TlsMessageHead
-headOf kind n = record { kind = kind; body = record { start = 4; len = n }; next = 4 + n }
+-- any text, written from the front of any output
+pub record EveryText : Type 0 where
+  -- with room for it, its bytes are the first of the output, all others are as they were, and the answer is their number
+  pub writes : (t out : List ℕ) → length t ≤ length out → (room (accepted t) 0 out ≡ accepted (length t)) × (written (accepted t) 0 out ≡ t ++ drop (length t) out)
+  -- with room short by one byte or more, it is NoRoom, and every byte is as it was
+  pub short : (t out : List ℕ) → length out < length t → (room (accepted t) 0 out ≡ refused (unplaced NoRoom)) × (written (accepted t) 0 out ≡ out)
+
+-- type, length and body
+abbrev pub framed : ℕ → List ℕ → List ℕ
+framed kind b = bytesOf 1 kind ++ (bytesOf 3 (length b) ++ b)
+
+-- document 01: "absent extensions write 00 00"
+abbrev pub added : OptView → List ℕ
+added Absent = 0x00 ∷ 0x00 ∷ []
+added (Present v) = []
+
+-- the bytes of the body before its tail, and what is added
+abbrev pub back : {C : Type 0} → Form C → List ℕ → C → List ℕ
+back k body c = take (k .tail c) body ++ added (k .block c)
+
+-- a hello read by a form from a body, written back as a message of a type
+pub record WritesBack {C : Type 0} (k : Form C) (kind most : ℕ) (body : List ℕ) : Type 0 where
+  -- before its tail the body has at most so many bytes
+  pub bound : (c : C) → reading k body ≡ accepted c → k .tail c ≤ most
+  -- its text
+  pub text : (c : C) → reading k body ≡ accepted c → messageText (headText kind) (helloText k body c) ≡ accepted (framed kind (back k body c))
+  -- with room for the longest, it is never refused
+  pub enough : (c : C) → reading k body ≡ accepted c → (out : List ℕ) → 4 + most ≤ length out
+      → room (messageText (headText kind) (helloText k body c)) 0 out ≡ accepted (length (framed kind (back k body c)))
+
+-- the text of a ServerHello that was read by the form that its version announces
+abbrev pub BackByVersion : List ℕ → Type 0
+BackByVersion body = (c : TlsServerHelloContents) → byVersion serverVersions body ≡ accepted c
+    → messageText (headText 0x02) (helloText (server true) body c) ≡ accepted (framed 0x02 (back (server true) body c))
+
+-- a ServerHello's text is the same by both its forms
+abbrev pub OneText : Type 0
+OneText = (hasExt : Bool) (s : List ℕ) (c : TlsServerHelloContents) → helloText (server hasExt) s c ≡ helloText (server true) s c
+
+-- what a second reading finds of the extensions: block and tail. A form with a block has them there, empty if they were absent; one without
+-- (a ServerHello at 0x0300) has their bytes as tail
+abbrev pub lastAgain : Option Field → List ℕ → Option (List ℕ) × List ℕ
+lastAgain (some f) e = (some e, [])
+lastAgain none e = (none, fieldBytes extensions e)
+
+abbrev pub again : {C : Type 0} (k : Form C) → List ℕ → C → Pieces (k .grammar)
+again k s c =
+    let last = lastAgain (k .grammar .block) (optPartOf s (k .block c)) in
+    record { parts = allNamed (k .grammar .rows) s (k .handed c); block = last .0; tail = last .1 }
+
+-- of any value, read before or made up, whose text is b: b is read, and its pieces are those of the value, but for block and tail
+abbrev pub ReadsAgain : {C : Type 0} → Form C → List ℕ → C → Type 0
+ReadsAgain {C} k s c = (b : List ℕ) → helloText k s c ≡ accepted b → (d : C) × (reading k b ≡ accepted d) × (pieces k b d ≡ again k s c)
+
+-- the version that was written announces by which form a ServerHello is read; if it is not listed, that is Tag
+abbrev pub AgainByVersion : Type 0
+AgainByVersion = (s : List ℕ) (c : TlsServerHelloContents) (b : List ℕ) → c .version < 65536 → helloText (server true) s c ≡ accepted b → byVersion serverVersions b ≡ ifListed (lookup (c .version) serverVersions) b
 
 -- a message of a type and a body, in its text and whatever stands behind that
 pub record Found (kind : ℕ) (body : List ℕ) (says : Answer TlsMessageHandshake) (text rest : List ℕ) : Type 0 where
   -- it ends where the text does
   pub whole : length text ≡ 4 + length body
   -- its head, and what the body is opened as
-  pub met : metAt (text ++ rest) 0 ≡ within 4 (then says (λ m. accepted (record { head = headOf kind (length body); says = m })))
+  pub met : metAt (text ++ rest) 0 ≡ giving (λ m. record {
+    head = record { kind = kind; body = record { start = 4; len = length body }; next = 4 + length body };
+    says = m;
+  }) says
   -- its body has the bytes written
   pub bytes : partOf (text ++ rest) (record { start = 4; len = length body }) ≡ body
 
@@ -56,12 +114,6 @@ pub record ReadsHello {C : Type 0} (k : Form C) (kind : ℕ) (make : C → TlsMe
 abbrev pub wholeOf : List ℕ → View
 wholeOf b = record { start = 0; len = length b }
 
--- the body of a key exchange: the part written, behind its length if it has one
-abbrev pub exchangeBody : List ℕ → TlsClientKeyExchangeContents → List ℕ
-exchangeBody s (Unknown v) = partOf s v
-exchangeBody s (Dh v) = fieldBytes (sized 2) (partOf s v)
-exchangeBody s (Ecdh v) = fieldBytes (sized 1) (partOf s v)
-
 -- messages whose views are of s, written, and whatever stands behind
 pub record Messages (s rest : List ℕ) : Type 0 where
   -- of no body
@@ -70,11 +122,11 @@ pub record Messages (s rest : List ℕ) : Type 0 where
   pub finished : (v : View) (t : List ℕ) → handshakeText s (Finished v) ≡ accepted t → Found 0x14 (partOf s v) (accepted (Finished (wholeOf (partOf s v)))) t rest
   -- handed out whole, always as raw
   pub clientKeyExchange : (k : TlsClientKeyExchangeContents) (t : List ℕ) → handshakeText s (ClientKeyExchange k) ≡ accepted t
-      → Found 0x10 (exchangeBody s k) (accepted (ClientKeyExchange (Unknown (wholeOf (exchangeBody s k))))) t rest
+      → (b : List ℕ) × (exchangeText s k ≡ accepted b) × Found 0x10 b (accepted (ClientKeyExchange (Unknown (wholeOf b)))) t rest
   -- as its form reads the body
   pub clientHello : (c : TlsClientHelloContents) (t : List ℕ) → handshakeText s (ClientHello c) ≡ accepted t → ReadsHello client 0x01 (λ d. ClientHello d) s c t rest
   -- as the form reads it that the version announces
-  pub serverHello : (hasExt : Bool) (c : TlsServerHelloContents) → c .version < 65536 → serverVersions (c .version) ≡ some (server hasExt) → (t : List ℕ)
+  pub serverHello : (hasExt : Bool) (c : TlsServerHelloContents) → c .version < 65536 → lookup (c .version) serverVersions ≡ some (server hasExt) → (t : List ℕ)
       → handshakeText s (ServerHello c) ≡ accepted t → ReadsHello (server hasExt) 0x02 (λ d. ServerHello d) s c t rest
   -- so too at draft 18's version
   pub draft18Hello : (c : TlsServerHelloV13Draft18Contents) → c .version ≡ 0x7f12 → (t : List ℕ)
@@ -95,10 +147,10 @@ pub record InRecord (hdr : TlsRecordHeader) (p text rest : List ℕ) : Type 0 wh
 
 pub record WayBack : Type 0 where
   -- a message of any type and of any body that three bytes can count
-  pub every : (kind : ℕ) (b rest : List ℕ) → kind < 256 → length b < 16777216 → Found kind b (byType kind b) (bytesOf 1 kind ++ (bytesOf 3 (length b) ++ b)) rest
+  pub every : (kind : ℕ) (b rest : List ℕ) → kind < 256 → length b < 16777216 → Found kind b (byTypeIn 0 4 kind b) (framed kind b) rest
   -- every text of a message is one
-  pub texts : (kind : ℕ) (body : Answer (List ℕ)) (t : List ℕ) → messageText kind body ≡ accepted t
-      → (b : List ℕ) × (body ≡ accepted b) × (length b < 16777216) × (bytesOf 1 kind ++ (bytesOf 3 (length b) ++ b) ≡ t)
+  pub texts : (kind : ℕ) (body : Answer (List ℕ)) (t : List ℕ) → messageText (headText kind) body ≡ accepted t
+      → (b : List ℕ) × (body ≡ accepted b) × (length b < 16777216) × (framed kind b ≡ t)
   -- the kinds that are written
   pub messages : (s rest : List ℕ) → Bytes s → Messages s rest
   -- the view of a whole body names its bytes

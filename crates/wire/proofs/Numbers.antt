@@ -14,7 +14,7 @@ use Rattle.refusal.proofs.Then.{not-both, then-accepted, then-refused}
 use Rattle.refusal.specs.declared.Reason.the-variants.{Incomplete}
 use Rattle.refusal.specs.declared.Refusal.{Refusal}
 use Rattle.wire.specs.Parts.{partAt}
-use Rattle.wire.specs.Numbers.{Bytes, Below, be, bytesIn, bytesOf, numberAt, numberSays, EveryWidth}
+use Rattle.wire.specs.Numbers.{Bytes, Below, be, bytesIn, bytesOf, numberAt, numberSays, EachUndoes}
 use Rattle.wire.specs.declared.view.Part.{Part}
 use Rattle.wire.specs.declared.number.Width.{Width}
 use Rattle.wire.specs.declared.number.Width.the-variants.{One, Two, Three, Four}
@@ -63,7 +63,7 @@ of-be (suc w) s b h =
     let m : (be w s 0 * 256 + getD s w 0) % 256 ≡ getD s w 0 = omega arith in
     rw (zero-add, d, m, of-be w s b (omega arith), take-suc s w 0 h)
 
-pub every-width : EveryWidth
+pub every-width : (w : ℕ) → EachUndoes w
 every-width w = record { long = length-bytes w; back = be-of w; forth = of-be w; holds = be-lt w }
 
 -- what fits in three bytes or fewer leaves room for one byte more in a usize

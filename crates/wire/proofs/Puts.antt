@@ -10,16 +10,15 @@ use lib.ListN.{length, getD, take, drop, set, length-append, length-drop, length
 use lib.Seq.{take-at, drop-at, drop-drop, length-take-le, drop-cons, set-at, take-set-le, drop-set-lt, getD-set-same, take-suc}
 use Rattle.refusal.specs.Answers.{Answer, accepted, refused, OneResult}
 use Rattle.refusal.proofs.Told.{tells-all}
-use Rattle.refusal.specs.Refusals.{refusal}
-use Rattle.refusal.specs.declared.Reason.the-variants.{NoRoom, BadLength}
+use Rattle.refusal.specs.Refusals.{unplaced}
+use Rattle.refusal.specs.declared.Reason.the-variants.{BadLength}
 use Rattle.refusal.specs.declared.Refusal.{Refusal}
-use Rattle.wire.specs.Parts.{partAt}
 use Rattle.wire.specs.Numbers.{bytesOf, numberText}
 use Rattle.wire.specs.declared.view.Part.{Part}
-use Rattle.wire.specs.Puts.{put, room, written, writeSays}
+use Rattle.wire.specs.Puts.{put, room, roomAt, written, writeSays}
 use Rattle.wire.specs.declared.output.WriteAnswer.{WriteAnswer}
 use Rattle.wire.specs.declared.output.WriteAnswer.the-variants.{Refused, Wrote}
-use Rattle.wire.proofs.Parts.{part-in, fits, short}
+use Rattle.wire.proofs.Parts.{room-in, room-fits, room-short}
 use Rattle.wire.proofs.Numbers.{length-bytes}
 
 pub put-nil : (d : List ℕ) (at : ℕ) → put d at [] ≡ d
@@ -93,20 +92,20 @@ pub text-refused : {t : Answer (List ℕ)} (at : ℕ) (d : List ℕ) {r : Refusa
 unfolding room written
 text-refused at d e = record { says = rw e; leaves = rw e }
 
-pub text-in : {t : Answer (List ℕ)} (bs : List ℕ) (at : ℕ) (d : List ℕ) {p : Part} → t ≡ accepted bs → partAt NoRoom d at (length bs) ≡ accepted p → Came t at d (accepted (p .next)) (put d at bs)
+pub text-in : {t : Answer (List ℕ)} (bs : List ℕ) (at : ℕ) (d : List ℕ) {p : Part} → t ≡ accepted bs → roomAt d at (length bs) ≡ accepted p → Came t at d (accepted (p .next)) (put d at bs)
 unfolding room written
-text-in bs at d e q = record { says = rw (e, q); leaves = rw (e, le-leb (at + length bs) (length d) (fits NoRoom d at (length bs) q .inside)) }
+text-in bs at d e q = record { says = rw (e, q); leaves = rw (e, le-leb (at + length bs) (length d) (room-fits d at (length bs) q .inside)) }
 
-pub text-out : {t : Answer (List ℕ)} (bs : List ℕ) (at : ℕ) (d : List ℕ) {r : Refusal} → t ≡ accepted bs → partAt NoRoom d at (length bs) ≡ refused r → Came t at d (refused r) d
+pub text-out : {t : Answer (List ℕ)} (bs : List ℕ) (at : ℕ) (d : List ℕ) {r : Refusal} → t ≡ accepted bs → roomAt d at (length bs) ≡ refused r → Came t at d (refused r) d
 unfolding room written
-text-out bs at d e q = record { says = rw (e, q); leaves = rw (e, lt-leb (at + length bs) (length d) (short NoRoom d at (length bs) q .outside)) }
+text-out bs at d e q = record { says = rw (e, q); leaves = rw (e, lt-leb (at + length bs) (length d) (room-short d at (length bs) q .1)) }
 
 -- a text with room for it is put in
 pub written-in : {t : Answer (List ℕ)} (bs : List ℕ) (at : ℕ) (d : List ℕ) → t ≡ accepted bs → at + length bs ≤ length d → written t at d ≡ put d at bs
-written-in bs at d e h = text-in bs at d e (part-in NoRoom d at (length bs) h) .leaves
+written-in bs at d e h = text-in bs at d e (room-in d at (length bs) h) .leaves
 
 -- and the same for a number's
-number-refused : (w n : ℕ) → 256 ^ w ≤ n → numberText w n ≡ refused (refusal BadLength 0 0)
+number-refused : (w n : ℕ) → 256 ^ w ≤ n → numberText w n ≡ refused (unplaced BadLength)
 unfolding numberText
 number-refused w n h = rw (le-ltb n (256 ^ w) h)
 
@@ -114,13 +113,13 @@ pub number-accepted : (w n : ℕ) → n < 256 ^ w → numberText w n ≡ accepte
 unfolding numberText
 number-accepted w n h = rw (lt-ltb n (256 ^ w) h)
 
-pub number-over : (w n at : ℕ) (d : List ℕ) → 256 ^ w ≤ n → Came (numberText w n) at d (refused (refusal BadLength 0 0)) d
+pub number-over : (w n at : ℕ) (d : List ℕ) → 256 ^ w ≤ n → Came (numberText w n) at d (refused (unplaced BadLength)) d
 number-over w n at d h = text-refused at d (number-refused w n h)
 
-pub number-put : (w n at : ℕ) (d : List ℕ) {p : Part} → n < 256 ^ w → partAt NoRoom d at w ≡ accepted p → Came (numberText w n) at d (accepted (p .next)) (put d at (bytesOf w n))
+pub number-put : (w n at : ℕ) (d : List ℕ) {p : Part} → n < 256 ^ w → roomAt d at w ≡ accepted p → Came (numberText w n) at d (accepted (p .next)) (put d at (bytesOf w n))
 number-put w n at d {p} h e = text-in (bytesOf w n) at d {p = p} (number-accepted w n h) (rw (length-bytes w n) e)
 
-pub number-out : (w n at : ℕ) (d : List ℕ) {r : Refusal} → n < 256 ^ w → partAt NoRoom d at w ≡ refused r → Came (numberText w n) at d (refused r) d
+pub number-out : (w n at : ℕ) (d : List ℕ) {r : Refusal} → n < 256 ^ w → roomAt d at w ≡ refused r → Came (numberText w n) at d (refused r) d
 number-out w n at d {r} h e = text-out (bytesOf w n) at d {r = r} (number-accepted w n h) (rw (length-bytes w n) e)
 
 -- equal numbers and values mean equal answers

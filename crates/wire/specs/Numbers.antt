@@ -1,11 +1,7 @@
 -- Numbers of any width. Document 01: "Numbers are big-endian." RFC 5246 4.1 gives the sum of the bytes, 4.4 the widths.
-use Prim.Native.Nat.{ℕ, zero, suc, _+_, _*_, _/_, _%_, _^_, _<_, _≤_}
-use mathlib.Core.Path.{_≡_}
-use mathlib.Core.List.{List, [], _∷_, _++_}
-use lib.ListN.{length, take, getD}
-use lib.Dec.{ltb}
+use Rattle.refusal.specs.Words.{ℕ, zero, suc, _+_, _*_, _/_, _%_, _^_, _<_, _≤_, _≡_, List, [], _∷_, _++_, length, take, getD, ltb}
 use Rattle.refusal.specs.Answers.{Answer, accepted, refused, then}
-use Rattle.refusal.specs.Refusals.{refusal}
+use Rattle.refusal.specs.Refusals.{unplaced}
 use Rattle.refusal.specs.declared.Reason.the-variants.{Incomplete, BadLength}
 use Rattle.wire.specs.Parts.{pick, partAt}
 use Rattle.wire.specs.declared.number.Width.{Width}
@@ -45,9 +41,6 @@ pub record EachUndoes (w : ℕ) : Type 0 where
   pub forth : (s : List ℕ) → Bytes s → w ≤ length s → bytesOf w (be w s 0) ≡ take w s
   pub holds : (s : List ℕ) (at : ℕ) → Bytes s → be w s at < 256 ^ w
 
-abbrev pub EveryWidth : Type 0
-EveryWidth = (w : ℕ) → EachUndoes w
-
 -- reading: the number at a place, and the place past it
 unfoldable pub numberAt : ℕ → List ℕ → ℕ → Answer Number
 numberAt w s at = then (partAt Incomplete s at w) (λ p. accepted (record { value = be w s at; next = p .next }))
@@ -59,7 +52,7 @@ Below w (Got n) = n .value < 256 ^ w
 
 -- writing: the number's bytes, where w bytes can hold it
 unfoldable pub numberText : ℕ → ℕ → Answer (List ℕ)
-numberText w n = pick (ltb n (256 ^ w)) (accepted (bytesOf w n)) (refused (refusal BadLength 0 0))
+numberText w n = pick (ltb n (256 ^ w)) (accepted (bytesOf w n)) (refused (unplaced BadLength))
 
 -- as an `Answer`, which has the paper's number and the values
 abbrev pub numberSays : NumberAnswer → Answer Number

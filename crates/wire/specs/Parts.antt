@@ -1,13 +1,10 @@
 -- Parts of the bytes lent: what a view names, and the bytes from a place on. Document 01: "a view that lies outside the bytes given with it
 -- yields the empty part".
-use Prim.Native.Nat.{ℕ, _+_, _-_}
-use mathlib.Core.List.{List, []}
-use mathlib.Core.Bool.{Bool, true, false}
-use lib.ListN.{length, take, drop}
-use lib.Dec.{leb}
+use Rattle.refusal.specs.Words.{ℕ, _+_, _-_, List, [], _∷_, Bool, true, false, Option, none, some, length, take, drop, leb, eqb}
 use Rattle.refusal.specs.Answers.{Answer, accepted, refused}
 use Rattle.refusal.specs.Refusals.{refusal}
 use Rattle.refusal.specs.declared.Reason.{Reason}
+use Rattle.refusal.specs.declared.Refusal.{Refusal}
 use Rattle.wire.specs.declared.view.View.{View}
 use Rattle.wire.specs.declared.view.OptView.{OptView}
 use Rattle.wire.specs.declared.view.OptView.the-variants.{Absent, Present}
@@ -20,6 +17,16 @@ abbrev pub pick : {A : Type 0} → Bool → A → A → A
 pick true a b = a
 pick false a b = b
 
+-- what is made of a value that is there, else the other
+abbrev pub ifSome : {A B : Type 0} → Option A → (A → B) → B → B
+ifSome (some a) k b = k a
+ifSome none k b = b
+
+-- what stands beside a number in a table, if it is listed
+abbrev pub lookup : {A : Type 0} → ℕ → List (ℕ × A) → Option A
+lookup k [] = none
+lookup k ((n, a) ∷ rows) = pick (eqb k n) (some a) (lookup k rows)
+
 -- the bytes of a view, or none where it lies outside
 abbrev pub partOf : List ℕ → View → List ℕ
 partOf s v = pick (leb (v .start + v .len) (length s)) (take (v .len) (drop (v .start) s)) []
@@ -29,12 +36,13 @@ abbrev pub optPartOf : List ℕ → OptView → List ℕ
 optPartOf s Absent = []
 optPartOf s (Present v) = partOf s v
 
--- the n bytes from a place on, or the refusal: of the n bytes, those past the end are lacking
+-- the n bytes from a place on, or this refusal
+abbrev pub partOr : Refusal → List ℕ → ℕ → ℕ → Answer Part
+partOr r s at n = pick (leb (at + n) (length s)) (accepted (record { view = record { start = at; len = n }; next = at + n })) (refused r)
+
+-- in reading: of the n bytes, those past the end are lacking
 unfoldable pub partAt : Reason → List ℕ → ℕ → ℕ → Answer Part
-partAt past s at n =
-    pick (leb (at + n) (length s))
-    (accepted (record { view = record { start = at; len = n }; next = at + n }))
-    (refused (refusal past at (n - (length s - at))))
+partAt past s at n = partOr (refusal past at (n - (length s - at))) s at n
 
 -- as an `Answer`, which has the paper's number and the values
 abbrev pub partSays : PartAnswer → Answer Part

@@ -1,12 +1,11 @@
 -- Writing into a lent buffer. Document 01: "A refused write leaves the output exactly as lent; an accepted one sets its first n bytes,
 -- reports n, and touches no others."
-use Prim.Native.Nat.{ℕ, _+_}
-use mathlib.Core.List.{List, _++_}
-use lib.ListN.{length, take, drop}
-use lib.Dec.{leb}
+use Rattle.refusal.specs.Words.{ℕ, _+_, List, _++_, length, take, drop, leb}
 use Rattle.refusal.specs.Answers.{Answer, accepted, refused, then}
+use Rattle.refusal.specs.Refusals.{unplaced}
 use Rattle.refusal.specs.declared.Reason.the-variants.{NoRoom}
-use Rattle.wire.specs.Parts.{pick, partAt}
+use Rattle.wire.specs.Parts.{pick, partOr}
+use Rattle.wire.specs.declared.view.Part.{Part}
 use Rattle.wire.specs.declared.output.WriteAnswer.{WriteAnswer}
 use Rattle.wire.specs.declared.output.WriteAnswer.the-variants.{Refused, Wrote}
 
@@ -14,9 +13,13 @@ use Rattle.wire.specs.declared.output.WriteAnswer.the-variants.{Refused,
 unfoldable pub put : List ℕ → ℕ → List ℕ → List ℕ
 put d at bs = take at d ++ (bs ++ drop (at + length bs) d)
 
+-- the room for n bytes from a place on
+unfoldable pub roomAt : List ℕ → ℕ → ℕ → Answer Part
+roomAt d at n = partOr (unplaced NoRoom) d at n
+
 -- the answer to writing a text from a place on: the place past it, or its own refusal, or NoRoom
 unfoldable pub room : Answer (List ℕ) → ℕ → List ℕ → Answer ℕ
-room t at d = then t (λ bs. then (partAt NoRoom d at (length bs)) (λ p. accepted (p .next)))
+room t at d = then t (λ bs. then (roomAt d at (length bs)) (λ p. accepted (p .next)))
 
 -- the buffer afterwards: the text put in where there is room for it, else the buffer as lent
 unfoldable pub written : Answer (List ℕ) → ℕ → List ℕ → List ℕ

@@ -109,9 +109,9 @@ pub fn gen_be(out: &mut [u8], at: usize, w: Width, n: usize) -> WriteAnswer
 {
     let count = width_bytes(w);
     if limit(w) <= n {
-        return WriteAnswer::Refused(refusal::refuse(Reason::BadLength, 0, 0));
+        return WriteAnswer::Refused(refusal::unplaced(Reason::BadLength));
     }
-    match crate::view::take_or(out, at, count, Reason::NoRoom) {
+    match crate::output::room_for(out, at, count) {
         PartAnswer::Refused(r) => WriteAnswer::Refused(r),
         PartAnswer::Got(p) => {
             put_number(out, at, count, n);

@@ -9,11 +9,12 @@ use native.Mathlib.Nat.{zero-add}
 use borrow.Author.Tests.{leb-true, leb-false, le-leb, lt-ltb, ltb-true, eqb-true, eq-eqb}
 use lib.ListN.{length, getD, length-append}
 use lib.Dec.{leb, ltb, eqb, leb·suc-suc}
-use Rattle.refusal.specs.Refusals.{numberOf, refusal}
+use Rattle.refusal.specs.Refusals.{numberOf, refusal, unplaced}
 use Rattle.refusal.specs.Answers.{Answer, accepted, refused, then, numberIn}
 use Rattle.refusal.specs.declared.Reason.{Reason}
-use Rattle.refusal.specs.declared.Reason.the-variants.{TooLarge, BadLength, NoRoom, NotYetImplemented}
-use Rattle.refusal.proofs.Told.{its-reason}
+use Rattle.refusal.specs.declared.Reason.the-variants.{Verify, LengthValue, TooLarge, BadLength, NoRoom, NotYetImplemented}
+use Rattle.refusal.specs.declared.Refusal.{Refusal}
+use Rattle.refusal.proofs.Told.{unplaced-reason}
 use Rattle.refusal.proofs.Then.{not-both}
 use Rattle.wire.specs.Parts.{pick, partOf, optPartOf}
 use Rattle.wire.specs.Numbers.{bytesOf, bytesIn, numberText}
@@ -23,29 +24,30 @@ use Rattle.wire.specs.declared.view.OptView.{OptView}
 use Rattle.wire.specs.declared.view.OptView.the-variants.{Absent, Present}
 use Rattle.wire.specs.declared.number.Width.{Width}
 use Rattle.wire.specs.declared.number.Width.the-variants.{One, Two, Three, Four}
-use Rattle.wire.proofs.Parts.{part-in, part-out}
+use Rattle.wire.proofs.Parts.{room-in, room-out}
 use Rattle.wire.proofs.Numbers.{length-bytes}
 use Rattle.wire.proofs.Puts.{Came, text-refused, text-in, text-out}
 use Rattle.field.specs.Fields.{Field, fixed, counted, sized, ruleOf}
 use Rattle.field.specs.Standing.{fieldBytes}
-use Rattle.field.specs.Texts.{both, allowed, fieldText}
+use Rattle.field.specs.Texts.{both, allows, allowed, fieldText}
 use Rattle.field.specs.declared.Kind.{Kind}
 use Rattle.field.specs.declared.Kind.the-variants.{Plain, SessionId, Ciphers, Methods, Fragment}
+use Rattle.field.proofs.Rules.{unless-is}
 use Rattle.field.proofs.Steps.{length-counted}
 use Rattle.field.proofs.Texts.{both-true}
 use Rattle.grammar.specs.Hellos.{random, sessionId, ciphers, extensions}
-use Rattle.grammar.specs.Forms.{Form, asView, asPart}
+use Rattle.grammar.specs.Grammars.{asView, asOpt}
+use Rattle.grammar.specs.Forms.{Form}
 use Rattle.text.specs.Hellos.{mayStand, mayWrite, helloBytes, helloText}
 use Rattle.text.specs.Messages.{headText, messageText, viewText, sizedText}
 use Rattle.text.proofs.Parts.{may-in, may-out}
 use Rattle.text.proofs.Mays as mays
-use Rattle.text.proofs.Hellos.{obeyed, hello-refused, hello-body}
-use Rattle.text.proofs.Messages.{Body, headBytes, message-is}
+use Rattle.text.proofs.Hellos.{obeyed, hello-refused, hello-message}
+use Rattle.text.proofs.Messages.{Message, short-head, message-is}
 use Rattle.client.specs.Client.{client}
 use Rattle.client.specs.declared.TlsClientHelloContents.{TlsClientHelloContents}
 use Rattle.genclient.proofs.Lengths.{client-length, client-bounds}
-use Rattle.server.specs.Server.{server}
-use Rattle.server.specs.Draft18.{draft18}
+use Rattle.server.specs.Server.{server, draft18}
 use Rattle.server.specs.declared.tlsv12.TlsServerHelloContents.{TlsServerHelloContents}
 use Rattle.server.specs.declared.tlsv13draft18.TlsServerHelloV13Draft18Contents.{TlsServerHelloV13Draft18Contents}
 use Rattle.genserver.proofs.Lengths.{server-length, server-bounds}
@@ -55,18 +57,19 @@ use Rattle.message.specs.declared.keyexchange.TlsClientKeyExchangeContents.the-
 use Rattle.message.specs.declared.handshake.TlsMessageHandshake.{TlsMessageHandshake}
 use Rattle.message.specs.declared.handshake.TlsMessageHandshake.the-variants.{HelloRequest, ClientHello, ServerHello, ServerHelloV13Draft18, NewSessionTicket, EndOfEarlyData, HelloRetryRequest, Certificate, ServerKeyExchange, CertificateRequest, ServerDone, CertificateVerify, ClientKeyExchange, Finished, CertificateStatus, NextProtocol, KeyUpdate}
 use Rattle.genpart.specs.Exchange.{exchangeText}
-use Rattle.genpart.proofs.Parts.{view-refused, view-body, sized-refused, sized-body}
+use Rattle.genpart.proofs.Parts.{view-message, view-refused, sized-message, sized-refused}
 use Rattle.genmessage.specs.Messages.{notWritten, handshakeText}
 use Rattle.grammar.specs.Splits.{join}
 use Rattle.record.specs.declared.TlsRecordHeader.{TlsRecordHeader}
 use Rattle.genrecord.specs.Records.{recordBytes, recordText}
-use Rattle.hear.specs.Heard.{bad, heard, heardClient, heardServer, heardDraft18, heardExchange, heardFinished}
+use Rattle.hear.specs.Heard.{heard}
+use Rattle.hear.proofs.Heard.{each-heard}
 use Rattle.wayback.proofs.Wrote.{message-wrote}
-use Rattle.writecases.specs.Writers.{Case, comesTo, refusing, upTo, whereFits, lent, optLent, optLen, randomFits, idFits, ciphersFit, extensionsFit, partFits, clientFits, clientLength, clientWrite, serverFits, serverLength, serverWrite, draft18Fits, draft18Length, draft18Write, exchangeWrite, finishedWrite, requestWrite, handshakeWrite, recordWrite, wide, most, numberWrite, bytesWrite, kindFits, kindSays, fieldWrite, headWrite, EveryWriting, isOne, Among, givenForLengths, givenForRoom, givenForMessages, givenForRecords, givenForFields, givenForHearing, EveryNumber, typeWritten, EveryType}
+use Rattle.writecases.specs.Writers.{Case, comesTo, refusing, upTo, whereFits, lent, optLent, optLen, randomFits, idFits, ciphersFit, extensionsFit, partFits, clientFits, clientLength, clientWrite, serverFits, serverLength, serverWrite, draft18Fits, draft18Length, draft18Write, exchangeWrite, finishedWrite, requestWrite, handshakeWrite, recordWrite, wide, most, numberWrite, bytesWrite, kindFits, kindSays, fieldWrite, headWrite, isOne, Among, givenForLengths, givenForRoom, givenForMessages, givenForRecords, givenForFields, givenForHearing, typeWritten, Writers, OnlyTheirs}
 
 -- a text that is refused, and one of n bytes
-case-no : {a : Answer ℕ} (why : Reason) (place lack : ℕ) → a ≡ refused (refusal why place lack) → comesTo a ≡ refusing why
-case-no why place lack e = ap comesTo e ∙ ap (λ (r : Reason). refusing r) (its-reason why place lack)
+case-no : {a : Answer ℕ} (why : Reason) → a ≡ refused (unplaced why) → comesTo a ≡ refusing why
+case-no why e = ap comesTo e ∙ ap (λ (r : Reason). refusing r) (unplaced-reason why)
 
 -- by whether it ends within the output
 abbrev ended : ℕ → Bool → Case
@@ -76,23 +79,23 @@ case-yes : {t : Answer (List ℕ)} (bs : List ℕ) (at n : ℕ) (out : List ℕ)
 case-yes {t} bs at n out e l = rw (← l) (go (leb (at + length bs) (length out)) refl)
   where
     go : (b : Bool) → leb (at + length bs) (length out) ≡ b → comesTo (room t at out) ≡ upTo (at + length bs) out
-    go true q = ap comesTo (text-in bs at out e (part-in NoRoom out at (length bs) (leb-true _ _ q)) .says) ∙ sym (ap (ended (at + length bs)) q)
-    go false q = case-no NoRoom at _ (text-out bs at out e (part-out NoRoom out at (length bs) (leb-false _ _ q)) .says) ∙ sym (ap (ended (at + length bs)) q)
+    go true q = ap comesTo (text-in bs at out e (room-in out at (length bs) (leb-true _ _ q)) .says) ∙ sym (ap (ended (at + length bs)) q)
+    go false q = case-no NoRoom (text-out bs at out e (room-out out at (length bs) (leb-false _ _ q)) .says) ∙ sym (ap (ended (at + length bs)) q)
 
 -- a text by a test
-case-by : {t : Answer (List ℕ)} (why : Reason) (bs : List ℕ) (fits : Bool) (at n : ℕ) (out : List ℕ) → t ≡ pick fits (accepted bs) (refused (refusal why 0 0)) → length bs ≡ n
+case-by : {t : Answer (List ℕ)} (why : Reason) (bs : List ℕ) (fits : Bool) (at n : ℕ) (out : List ℕ) → t ≡ pick fits (accepted bs) (refused (unplaced why)) → length bs ≡ n
     → comesTo (room t at out) ≡ pick fits (upTo (at + n) out) (refusing why)
 case-by why bs true at n out e l = case-yes bs at n out e l
-case-by why bs false at n out e l = case-no why 0 0 (text-refused at out e .says)
+case-by why bs false at n out e l = case-no why (text-refused at out e .says)
 
 -- a message by a test: where it holds there is a body of k bytes
-message-case : (kind : ℕ) {body : Answer (List ℕ)} {bs : List ℕ} (k n : ℕ) (fits : Bool) (out : List ℕ) → (fits ≡ true → Body body bs k × (4 + k ≡ n))
-    → (fits ≡ false → Came (messageText kind body) 0 out (refused (refusal BadLength 0 0)) out) → comesTo (room (messageText kind body) 0 out) ≡ whereFits fits n out
+message-case : (kind : ℕ) {body : Answer (List ℕ)} {bs : List ℕ} (k n : ℕ) (fits : Bool) (out : List ℕ) → (fits ≡ true → Message (headText kind) 4 body bs k × (4 + k ≡ n))
+    → (fits ≡ false → Came (messageText (headText kind) body) 0 out (refused (unplaced BadLength)) out) → comesTo (room (messageText (headText kind) body) 0 out) ≡ whereFits fits n out
 message-case kind {bs = bs} k n true out y z =
     let (b, l) = y refl in
-    let m : length (headBytes kind (length bs) ++ bs) ≡ n = simp (length-append, length-bytes) (omega (arith, b .long, l)) in
-    rw zero-add at (case-yes (headBytes kind (length bs) ++ bs) 0 n out (message-is kind bs (b .is) (omega (arith, b .long, b .small))) m)
-message-case kind k n false out y z = case-no BadLength 0 0 (z refl .says)
+    let m : length (b .front ++ bs) ≡ n = simp length-append (omega (arith, b .wide, b .long, l)) in
+    rw zero-add at (case-yes (b .front ++ bs) 0 n out (message-is (headText kind) (b .front) bs (rw (b .long) at (b .before)) (b .is)) m)
+message-case kind k n false out y z = case-no BadLength (z refl .says)
 
 -- tests: two that hold together are one
 same : (a b : Bool) → (a ≡ true → b ≡ true) → (b ≡ true → a ≡ true) → a ≡ b
@@ -153,17 +156,17 @@ view-may f s v = go (lent s v) refl
     go true e = may-in f s v e ∙ sym (ap (λ (b : Bool). b && allowed f (v .len)) e)
     go false e = may-out f s v e ∙ sym (ap (λ (b : Bool). b && allowed f (v .len)) e)
 
-opt-may : (f : Field) (s : List ℕ) (o : OptView) → mayStand f asPart s o ≡ (optLent s o && allowed f (optLen o))
+opt-may : (f : Field) (s : List ℕ) (o : OptView) → mayStand f (asOpt false) s o ≡ (optLent s o && allowed f (optLen o))
 opt-may f s Absent = refl
 opt-may f s (Present v) = view-may f s v
 
-id-may : (s : List ℕ) (o : OptView) → mayStand sessionId asPart s o ≡ idFits s o
-id-may s o = opt-may sessionId s o ∙ ap (λ (b : Bool). optLent s o && b) (narrow One (optLen o) 32 (omega arith))
+id-may : (s : List ℕ) (o : OptView) → mayStand (sessionId .0) (asOpt false) s o ≡ idFits s o
+id-may s o = opt-may (sessionId .0) s o ∙ ap (λ (b : Bool). optLent s o && b) (rw (unless-is {A = ℕ → ℕ → Refusal} (leb (optLen o) 32) (λ at behind. refusal Verify at 0)) (narrow One (optLen o) 32 (omega arith)))
 
-ciphers-may : (s : List ℕ) (v : View) → mayStand ciphers asView s v ≡ ciphersFit s v
-ciphers-may s v = view-may ciphers s v ∙ ap (λ (b : Bool). lent s v && b) (even (v .len))
+ciphers-may : (s : List ℕ) (v : View) → mayStand (ciphers .0) asView s v ≡ ciphersFit s v
+ciphers-may s v = view-may (ciphers .0) s v ∙ ap (λ (b : Bool). lent s v && b) (rw (unless-is {A = ℕ → ℕ → Refusal} (eqb (v .len % 2) 0) (λ at behind. refusal LengthValue behind 0)) (even (v .len)))
 
-extensions-may : (s : List ℕ) (o : OptView) → mayStand extensions asPart s o ≡ extensionsFit s o
+extensions-may : (s : List ℕ) (o : OptView) → mayStand extensions (asOpt false) s o ≡ extensionsFit s o
 extensions-may s o = opt-may extensions s o ∙ ap (λ (b : Bool). optLent s o && b) (plain Two (optLen o))
 
 part-may : (w : Width) (s : List ℕ) (v : View) → mayStand (sized (bytesIn w)) asView s v ≡ partFits (most w) s v
@@ -179,20 +182,20 @@ opt-length s (Present v) more e = view-length s v more e
 
 -- the hellos: which may be written, and how long they are
 hello-case : {C : Type 0} (k : Form C) (kind : ℕ) (s : List ℕ) (c : C) (fits : Bool) (n : ℕ) (out : List ℕ) → mayWrite k s c ≡ fits
-    → (fits ≡ true → (4 + length (helloBytes k s c) ≡ n) × (length (helloBytes k s c) < 16777216)) → comesTo (room (messageText kind (helloText k s c)) 0 out) ≡ whereFits fits n out
+    → (fits ≡ true → (4 + length (helloBytes k s c) ≡ n) × (length (helloBytes k s c) < 16777216)) → comesTo (room (messageText (headText kind) (helloText k s c)) 0 out) ≡ whereFits fits n out
 hello-case k kind s c fits n out m h =
     message-case kind (length (helloBytes k s c)) n fits out
-    (λ e. (hello-body k s c _ (m ∙ e) refl (h e .1), h e .0))
-    (λ e. hello-refused k s c kind out {t = false} (sym (m ∙ e)) refl refl)
+    (λ e. (hello-message k kind s c _ (m ∙ e) refl (h e .1), h e .0))
+    (λ e. hello-refused k kind s c out {t = false} (sym (m ∙ e)) refl refl)
 
-client-hello : (s : List ℕ) (c : TlsClientHelloContents) (out : List ℕ) → comesTo (room (messageText 0x01 (helloText client s c)) 0 out) ≡ clientWrite s c out
+client-hello : (s : List ℕ) (c : TlsClientHelloContents) (out : List ℕ) → comesTo (room (messageText (headText 0x01) (helloText client s c)) 0 out) ≡ clientWrite s c out
 unfolding clientFits clientLength
 client-hello s c out = hello-case client 0x01 s c (clientFits s c) (clientLength c) out fits size
   where
     fits : mayWrite client s c ≡ clientFits s c
     fits =
         mays.begin client s c .is
-        ∙ also (view-may random s (c .random)) (also (id-may s (c .«session_id»)) (also (ciphers-may s (c .ciphers)) (also (part-may One s (c .comp)) (extensions-may s (c .ext)))))
+        ∙ also (view-may (random .0) s (c .random)) (also (id-may s (c .«session_id»)) (also (ciphers-may s (c .ciphers)) (also (part-may One s (c .comp)) (extensions-may s (c .ext)))))
 
     size : clientFits s c ≡ true → (4 + length (helloBytes client s c) ≡ clientLength c) × (length (helloBytes client s c) < 16777216)
     size e =
@@ -208,12 +211,12 @@ client-hello s c out = hello-case client 0x01 s c (clientFits s c) (clientLength
         let x = opt-length s (c .ext) _ (g .1) in
         (omega (arith, l, i, j, k, x), omega (arith, l, client-bounds s c o))
 
-server-hello : (s : List ℕ) (c : TlsServerHelloContents) (out : List ℕ) → comesTo (room (messageText 0x02 (helloText (server true) s c)) 0 out) ≡ serverWrite s c out
+server-hello : (s : List ℕ) (c : TlsServerHelloContents) (out : List ℕ) → comesTo (room (messageText (headText 0x02) (helloText (server true) s c)) 0 out) ≡ serverWrite s c out
 unfolding serverFits serverLength
 server-hello s c out = hello-case (server true) 0x02 s c (serverFits s c) (serverLength c) out fits size
   where
     fits : mayWrite (server true) s c ≡ serverFits s c
-    fits = mays.begin (server true) s c .is ∙ also (view-may random s (c .random)) (also (id-may s (c .«session_id»)) (extensions-may s (c .ext)))
+    fits = mays.begin (server true) s c .is ∙ also (view-may (random .0) s (c .random)) (also (id-may s (c .«session_id»)) (extensions-may s (c .ext)))
 
     size : serverFits s c ≡ true → (4 + length (helloBytes (server true) s c) ≡ serverLength c) × (length (helloBytes (server true) s c) < 16777216)
     size e =
@@ -225,12 +228,12 @@ server-hello s c out = hello-case (server true) 0x02 s c (serverFits s c) (serve
         let x = opt-length s (c .ext) _ (b .1) in
         (omega (arith, l, i, x), omega (arith, l, server-bounds s c o))
 
-draft18-hello : (s : List ℕ) (c : TlsServerHelloV13Draft18Contents) (out : List ℕ) → comesTo (room (messageText 0x02 (helloText draft18 s c)) 0 out) ≡ draft18Write s c out
+draft18-hello : (s : List ℕ) (c : TlsServerHelloV13Draft18Contents) (out : List ℕ) → comesTo (room (messageText (headText 0x02) (helloText draft18 s c)) 0 out) ≡ draft18Write s c out
 unfolding draft18Fits draft18Length
 draft18-hello s c out = hello-case draft18 0x02 s c (draft18Fits s c) (draft18Length c) out fits size
   where
     fits : mayWrite draft18 s c ≡ draft18Fits s c
-    fits = mays.begin draft18 s c .is ∙ also (view-may random s (c .random)) (extensions-may s (c .ext))
+    fits = mays.begin draft18 s c .is ∙ also (view-may (random .0) s (c .random)) (extensions-may s (c .ext))
 
     size : draft18Fits s c ≡ true → (4 + length (helloBytes draft18 s c) ≡ draft18Length c) × (length (helloBytes draft18 s c) < 16777216)
     size e =
@@ -240,36 +243,36 @@ draft18-hello s c out = hello-case draft18 0x02 s c (draft18Fits s c) (draft18Le
         (omega (arith, l, x), omega (arith, l, draft18-bounds s c o))
 
 -- a part, as it is and behind its length
-view-case : (kind : ℕ) (s : List ℕ) (v : View) (out : List ℕ) → comesTo (room (messageText kind (viewText s v)) 0 out) ≡ whereFits (partFits 16777215 s v) (4 + v .len) out
+view-case : (kind : ℕ) (s : List ℕ) (v : View) (out : List ℕ) → comesTo (room (messageText (headText kind) (viewText s v)) 0 out) ≡ whereFits (partFits 16777215 s v) (4 + v .len) out
 view-case kind s v out =
     message-case kind (length (partOf s v)) (4 + v .len) (partFits 16777215 s v) out
-    (λ e. (view-body s v {t = true} (sym (part-may Three s v ∙ e)) refl (partOf s v) refl, omega (arith, view-length s v _ e)))
+    (λ e. (view-message s v kind {t = true} (sym (part-may Three s v ∙ e)) refl (partOf s v) refl, omega (arith, view-length s v _ e)))
     (λ e. view-refused s v kind out {t = false} (sym (part-may Three s v ∙ e)) refl refl)
 
-sized-case : (kind : ℕ) (w : Width) → wide w ≤ 2 → (s : List ℕ) (v : View) (out : List ℕ) → comesTo (room (messageText kind (sizedText (bytesIn w) s v)) 0 out) ≡ whereFits (partFits (most w) s v) (4 + (wide w + v .len)) out
+sized-case : (kind : ℕ) (w : Width) → wide w ≤ 2 → (s : List ℕ) (v : View) (out : List ℕ) → comesTo (room (messageText (headText kind) (sizedText (bytesIn w) s v)) 0 out) ≡ whereFits (partFits (most w) s v) (4 + (wide w + v .len)) out
 sized-case kind w h s v out =
     message-case kind (wide w + length (partOf s v)) (4 + (wide w + v .len)) (partFits (most w) s v) out
-    (λ e. (sized-body s v (bytesIn w) {t = true} (sym (part-may w s v ∙ e)) refl (partOf s v) refl (rw (width-wide w) h) (wide w) (sym (width-wide w)) .body, omega (arith, view-length s v _ e)))
+    (λ e. (sized-message s v (bytesIn w) {t = true} (sym (part-may w s v ∙ e)) refl (partOf s v) refl kind (rw (width-wide w) h) (wide w) (sym (width-wide w)) .message, omega (arith, view-length s v _ e)))
     (λ e. sized-refused s v (bytesIn w) kind out {t = false} (sym (part-may w s v ∙ e)) refl refl)
 
-client-key-exchange : (s : List ℕ) (k : TlsClientKeyExchangeContents) (out : List ℕ) → comesTo (room (messageText 0x10 (exchangeText s k)) 0 out) ≡ exchangeWrite s k out
+client-key-exchange : (s : List ℕ) (k : TlsClientKeyExchangeContents) (out : List ℕ) → comesTo (room (messageText (headText 0x10) (exchangeText s k)) 0 out) ≡ exchangeWrite s k out
 client-key-exchange s (Unknown v) out = view-case 0x10 s v out
 client-key-exchange s (Dh v) out = sized-case 0x10 Two (omega arith) s v out
 client-key-exchange s (Ecdh v) out = sized-case 0x10 One (omega arith) s v out
 
-finished : (s : List ℕ) (v : View) (out : List ℕ) → comesTo (room (messageText 0x14 (viewText s v)) 0 out) ≡ finishedWrite s v out
+finished : (s : List ℕ) (v : View) (out : List ℕ) → comesTo (room (messageText (headText 0x14) (viewText s v)) 0 out) ≡ finishedWrite s v out
 finished s v out = view-case 0x14 s v out
 
 head : (kind n : ℕ) (out : List ℕ) → comesTo (room (headText kind n) 0 out) ≡ headWrite n out
 unfolding headText numberText
 head kind n out = rw (width-most Three n) (go (leb n 16777215))
   where
-    go : (t : Bool) → comesTo (room (then (pick t (accepted (bytesOf 3 n)) (refused (refusal BadLength 0 0))) (λ b. accepted (bytesOf 1 kind ++ b))) 0 out) ≡ whereFits t 4 out
+    go : (t : Bool) → comesTo (room (then (pick t (accepted (bytesOf 3 n)) (refused (unplaced BadLength))) (λ b. accepted (bytesOf 1 kind ++ b))) 0 out) ≡ whereFits t 4 out
     go true = case-yes (bytesOf 1 kind ++ bytesOf 3 n) 0 4 out refl (simp (length-append, length-bytes))
-    go false = case-no BadLength 0 0 (text-refused 0 out refl .says)
+    go false = case-no BadLength (text-refused 0 out refl .says)
 
-hello-request : (out : List ℕ) → comesTo (room (messageText 0x00 (accepted [])) 0 out) ≡ requestWrite out
-hello-request out = message-case 0x00 0 4 true out (λ e. (record { is = refl; long = refl; small = omega arith }, refl)) (λ e. absurd (true≢false e))
+hello-request : (out : List ℕ) → comesTo (room (messageText (headText 0x00) (accepted [])) 0 out) ≡ requestWrite out
+hello-request out = message-case 0x00 0 4 true out (λ e. (short-head 0x00 refl refl (omega arith), refl)) (λ e. absurd (true≢false e))
 
 handshake : (s : List ℕ) (m : TlsMessageHandshake) (out : List ℕ) → comesTo (room (handshakeText s m) 0 out) ≡ handshakeWrite s m out
 unfolding handshakeText handshakeWrite
@@ -279,24 +282,24 @@ handshake s (ServerHello c) out = server-hello s c out
 handshake s (ServerHelloV13Draft18 c) out = draft18-hello s c out
 handshake s (ClientKeyExchange k) out = client-key-exchange s k out
 handshake s (Finished v) out = finished s v out
-handshake s (NewSessionTicket c) out = case-no NotYetImplemented 0 0 (text-refused 0 out refl .says)
-handshake s EndOfEarlyData out = case-no NotYetImplemented 0 0 (text-refused 0 out refl .says)
-handshake s (HelloRetryRequest c) out = case-no NotYetImplemented 0 0 (text-refused 0 out refl .says)
-handshake s (Certificate c) out = case-no NotYetImplemented 0 0 (text-refused 0 out refl .says)
-handshake s (ServerKeyExchange c) out = case-no NotYetImplemented 0 0 (text-refused 0 out refl .says)
-handshake s (CertificateRequest c) out = case-no NotYetImplemented 0 0 (text-refused 0 out refl .says)
-handshake s (ServerDone v) out = case-no NotYetImplemented 0 0 (text-refused 0 out refl .says)
-handshake s (CertificateVerify v) out = case-no NotYetImplemented 0 0 (text-refused 0 out refl .says)
-handshake s (CertificateStatus c) out = case-no NotYetImplemented 0 0 (text-refused 0 out refl .says)
-handshake s (NextProtocol c) out = case-no NotYetImplemented 0 0 (text-refused 0 out refl .says)
-handshake s (KeyUpdate n) out = case-no NotYetImplemented 0 0 (text-refused 0 out refl .says)
+handshake s (NewSessionTicket c) out = case-no NotYetImplemented (text-refused 0 out refl .says)
+handshake s EndOfEarlyData out = case-no NotYetImplemented (text-refused 0 out refl .says)
+handshake s (HelloRetryRequest c) out = case-no NotYetImplemented (text-refused 0 out refl .says)
+handshake s (Certificate c) out = case-no NotYetImplemented (text-refused 0 out refl .says)
+handshake s (ServerKeyExchange c) out = case-no NotYetImplemented (text-refused 0 out refl .says)
+handshake s (CertificateRequest c) out = case-no NotYetImplemented (text-refused 0 out refl .says)
+handshake s (ServerDone v) out = case-no NotYetImplemented (text-refused 0 out refl .says)
+handshake s (CertificateVerify v) out = case-no NotYetImplemented (text-refused 0 out refl .says)
+handshake s (CertificateStatus c) out = case-no NotYetImplemented (text-refused 0 out refl .says)
+handshake s (NextProtocol c) out = case-no NotYetImplemented (text-refused 0 out refl .says)
+handshake s (KeyUpdate n) out = case-no NotYetImplemented (text-refused 0 out refl .says)
 
 plaintext : (hdr : TlsRecordHeader) (p out : List ℕ) → comesTo (room (recordText hdr p) 0 out) ≡ recordWrite p out
 unfolding recordText join
 plaintext hdr p out =
     rw zero-add at
     (case-by {t = recordText hdr p} TooLarge (recordBytes hdr p) (leb (length p) 16640) 0 (5 + length p) out
-    (rw (narrow Two (length p) 16640 (omega arith)))
+    (rw (unless-is {A = ℕ → ℕ → Refusal} (leb (length p) 16640) (λ at behind. refusal TooLarge at 0), narrow Two (length p) 16640 (omega arith)))
     (simp (length-append, length-bytes, append-nil) (omega arith)))
 
 -- what they are made of
@@ -314,12 +317,12 @@ field w k p at out =
     (rw (also (width-most w (length p)) (fits k), unfit k))
     (length-counted (bytesIn w) (ruleOf k) p ∙ rw (width-wide w))
   where
-    fits : (k : Kind) → ruleOf k .allows (length p) ≡ kindFits k (length p)
+    fits : (k : Kind) → allows (ruleOf k) (length p) ≡ kindFits k (length p)
     fits Plain = refl
-    fits SessionId = refl
-    fits Ciphers = refl
+    fits SessionId = unless-is _ _
+    fits Ciphers = unless-is _ _
     fits Methods = refl
-    fits Fragment = refl
+    fits Fragment = unless-is _ _
 
     unfit : (k : Kind) → ruleOf k .unfit ≡ kindSays k
     unfit Plain = refl
@@ -328,7 +331,7 @@ field w k p at out =
     unfit Methods = refl
     unfit Fragment = refl
 
-pub every-writing : EveryWriting
+pub every-writing : (s out : List ℕ) → Writers s out
 every-writing s out = record {
   clientHello = λ c. client-hello s c out;
   serverHello = λ c. server-hello s c out;
@@ -360,13 +363,13 @@ numbers ks why false n out y z x = x
 of-case : {x c : Case} (ks : List ℕ) → x ≡ c → isOne ks (c .number) ≡ true → isOne ks (x .number) ≡ true
 of-case ks e h = ap (λ (a : Case). isOne ks (a .number)) e ∙ h
 
-client-numbers : (s : List ℕ) (c : TlsClientHelloContents) (out : List ℕ) → Among givenForLengths (room (messageText 0x01 (helloText client s c)) 0 out)
+client-numbers : (s : List ℕ) (c : TlsClientHelloContents) (out : List ℕ) → Among givenForLengths (room (messageText (headText 0x01) (helloText client s c)) 0 out)
 client-numbers s c out = of-case givenForLengths (client-hello s c out) (numbers givenForLengths BadLength (clientFits s c) (clientLength c) out refl refl refl)
 
-server-numbers : (s : List ℕ) (c : TlsServerHelloContents) (out : List ℕ) → Among givenForLengths (room (messageText 0x02 (helloText (server true) s c)) 0 out)
+server-numbers : (s : List ℕ) (c : TlsServerHelloContents) (out : List ℕ) → Among givenForLengths (room (messageText (headText 0x02) (helloText (server true) s c)) 0 out)
 server-numbers s c out = of-case givenForLengths (server-hello s c out) (numbers givenForLengths BadLength (serverFits s c) (serverLength c) out refl refl refl)
 
-draft18-numbers : (s : List ℕ) (c : TlsServerHelloV13Draft18Contents) (out : List ℕ) → Among givenForLengths (room (messageText 0x02 (helloText draft18 s c)) 0 out)
+draft18-numbers : (s : List ℕ) (c : TlsServerHelloV13Draft18Contents) (out : List ℕ) → Among givenForLengths (room (messageText (headText 0x02) (helloText draft18 s c)) 0 out)
 draft18-numbers s c out = of-case givenForLengths (draft18-hello s c out) (numbers givenForLengths BadLength (draft18Fits s c) (draft18Length c) out refl refl refl)
 
 exchange-among : (ks s : List ℕ) (k : TlsClientKeyExchangeContents) (out : List ℕ) → isOne ks 0 ≡ true → isOne ks (numberOf NoRoom) ≡ true → isOne ks (numberOf BadLength) ≡ true
@@ -375,13 +378,13 @@ exchange-among ks s (Unknown v) out y z x = numbers ks BadLength (partFits 16777
 exchange-among ks s (Dh v) out y z x = numbers ks BadLength (partFits 65535 s v) (4 + (2 + v .len)) out y z x
 exchange-among ks s (Ecdh v) out y z x = numbers ks BadLength (partFits 255 s v) (4 + (1 + v .len)) out y z x
 
-exchange-numbers : (s : List ℕ) (k : TlsClientKeyExchangeContents) (out : List ℕ) → Among givenForLengths (room (messageText 0x10 (exchangeText s k)) 0 out)
+exchange-numbers : (s : List ℕ) (k : TlsClientKeyExchangeContents) (out : List ℕ) → Among givenForLengths (room (messageText (headText 0x10) (exchangeText s k)) 0 out)
 exchange-numbers s k out = of-case givenForLengths (client-key-exchange s k out) (exchange-among givenForLengths s k out refl refl refl)
 
-finished-numbers : (s : List ℕ) (v : View) (out : List ℕ) → Among givenForLengths (room (messageText 0x14 (viewText s v)) 0 out)
+finished-numbers : (s : List ℕ) (v : View) (out : List ℕ) → Among givenForLengths (room (messageText (headText 0x14) (viewText s v)) 0 out)
 finished-numbers s v out = of-case givenForLengths (finished s v out) (numbers givenForLengths BadLength (partFits 16777215 s v) (4 + v .len) out refl refl refl)
 
-request-numbers : (out : List ℕ) → Among givenForRoom (room (messageText 0x00 (accepted [])) 0 out)
+request-numbers : (out : List ℕ) → Among givenForRoom (room (messageText (headText 0x00) (accepted [])) 0 out)
 request-numbers out = of-case givenForRoom (hello-request out) (room-numbers givenForRoom 4 out refl refl)
 
 handshake-numbers : (s : List ℕ) (m : TlsMessageHandshake) (out : List ℕ) → Among givenForMessages (room (handshakeText s m) 0 out)
@@ -436,52 +439,17 @@ field-numbers w k p at out = of-case (givenForFields k) (field w k p at out) (nu
 head-numbers : (kind n : ℕ) (out : List ℕ) → Among givenForLengths (room (headText kind n) 0 out)
 head-numbers kind n out = of-case givenForLengths (head kind n out) (numbers givenForLengths BadLength (leb n 16777215) 4 out refl refl refl)
 
--- hearing: each test leads to one of them
+-- hearing: a message, BadLength or NotYetImplemented
 abbrev Hears : Answer TlsMessageHandshake → Type 0
 Hears a = isOne givenForHearing (numberIn a) ≡ true
 
-test : (t : Bool) (x y : Answer TlsMessageHandshake) → Hears x → Hears y → Hears (pick t x y)
-test true x y p q = p
-test false x y p q = q
-
-bad-heard : Hears bad
-bad-heard = ap (λ (r : Reason). isOne givenForHearing (numberOf r)) (its-reason BadLength 0 0)
-
-client-heard : (m : List ℕ) → Hears (heardClient m)
-unfolding heardClient
-client-heard m = test (leb 15 (length m)) _ _ (test (ltb (getD m 1 0) 0x10000) _ _ refl bad-heard) bad-heard
-
-server-heard : (m : List ℕ) → Hears (heardServer m)
-unfolding heardServer
-server-heard m =
-    test (leb 13 (length m)) _ _ (test (ltb (getD m 1 0) 0x10000) _ _ (test (ltb (getD m 7 0) 0x10000) _ _ (test (ltb (getD m 8 0) 0x100) _ _ refl bad-heard) bad-heard) bad-heard) bad-heard
-
-draft18-heard : (m : List ℕ) → Hears (heardDraft18 m)
-unfolding heardDraft18
-draft18-heard m = test (leb 9 (length m)) _ _ (test (ltb (getD m 1 0) 0x10000) _ _ (test (ltb (getD m 4 0) 0x10000) _ _ refl bad-heard) bad-heard) bad-heard
-
-exchange-heard : (m : List ℕ) → Hears (heardExchange m)
-unfolding heardExchange
-exchange-heard m = test (leb 4 (length m)) _ _ (test (eqb (getD m 1 0) 0) _ _ refl (test (eqb (getD m 1 0) 1) _ _ refl (test (eqb (getD m 1 0) 2) _ _ refl bad-heard))) bad-heard
-
-finished-heard : (m : List ℕ) → Hears (heardFinished m)
-unfolding heardFinished
-finished-heard m = test (leb 3 (length m)) _ _ refl bad-heard
-
 hearing : (m : List ℕ) → Hears (heard m)
-unfolding heard
-hearing m =
-    test (leb 1 (length m)) _ _
-    (test (eqb (getD m 0 0) 0) _ _ refl
-    (test (eqb (getD m 0 0) 1) _ _ (client-heard m)
-    (test (eqb (getD m 0 0) 2) _ _ (server-heard m)
-    (test (eqb (getD m 0 0) 16) _ _ (exchange-heard m)
-    (test (eqb (getD m 0 0) 20) _ _ (finished-heard m)
-    (test (eqb (getD m 0 0) 0x7f12) _ _ (draft18-heard m)
-    (ap (λ (r : Reason). isOne givenForHearing (numberOf r)) (its-reason NotYetImplemented 0 0))))))))
-    bad-heard
+hearing m = each-heard Hears (λ x. refl) (said BadLength refl) (said NotYetImplemented refl) m
+  where
+    said : (why : Reason) → isOne givenForHearing (numberOf why) ≡ true → Hears (refused (unplaced why))
+    said why e = ap (λ (r : Reason). isOne givenForHearing (numberOf r)) (unplaced-reason why) ∙ e
 
-pub every-number : EveryNumber
+pub every-number : (s out : List ℕ) → OnlyTheirs s out
 every-number s out = record {
   clientHello = λ c. client-numbers s c out;
   serverHello = λ c. server-numbers s c out;
@@ -499,14 +467,15 @@ every-number s out = record {
 }
 
 -- the first byte of a message
-begins : (kind : ℕ) (body : Answer (List ℕ)) (t : List ℕ) → messageText kind body ≡ accepted t → some (getD t 0 0) ≡ some (kind % 256)
+begins : (kind : ℕ) (body : Answer (List ℕ)) (t : List ℕ) → messageText (headText kind) body ≡ accepted t → some (getD t 0 0) ≡ some (kind % 256)
 unfolding bytesOf
 begins kind body t e = ap (λ (x : List ℕ). some (getD x 0 0)) (sym (message-wrote kind body e .whole))
 
 none-written : {A : Type 0} {t : List ℕ} → notWritten ≡ accepted t → A
 none-written e = absurd (not-both e refl)
 
-pub every-type : EveryType
+-- a text begins with its type
+pub every-type : (s : List ℕ) (m : TlsMessageHandshake) (t : List ℕ) → handshakeText s m ≡ accepted t → some (getD t 0 0) ≡ typeWritten m
 unfolding handshakeText typeWritten
 every-type s HelloRequest t e = begins 0x00 (accepted []) t e
 every-type s (ClientHello c) t e = begins 0x01 (helloText client s c) t e

@@ -1,13 +1,7 @@
 -- Document 01's table of refusals, of the writers: "Each is given only then", and "Order in writing: 12, then 8, or 7 for a record, then
 -- 9". The rules stand here a second time, from the paper, in plain lengths and places: no case names a field, a rule or a form. By its
 -- contract a writer's answer is `room` of its text, so each case is one of the code. Shown by `proofs/Writers.antt`.
-use Prim.Native.Nat.{ℕ, _+_, _%_}
-use mathlib.Core.Path.{_≡_}
-use mathlib.Core.List.{List, [], _∷_}
-use mathlib.Core.Bool.{Bool, true, false, _&&_, _||_}
-use mathlib.Core.Option.{Option, none, some}
-use lib.ListN.{length, getD}
-use lib.Dec.{leb, eqb}
+use Rattle.refusal.specs.Words.{ℕ, _+_, _%_, _≡_, List, [], _∷_, Bool, true, false, _&&_, _||_, Option, none, some, length, getD, leb, eqb}
 use Rattle.refusal.specs.Refusals.{numberOf}
 use Rattle.refusal.specs.Answers.{Answer, accepted, numberIn, valuesIn}
 use Rattle.refusal.specs.declared.Reason.{Reason}
@@ -28,8 +22,7 @@ use Rattle.text.specs.Hellos.{helloText}
 use Rattle.text.specs.Messages.{headText, messageText, viewText}
 use Rattle.client.specs.Client.{client}
 use Rattle.client.specs.declared.TlsClientHelloContents.{TlsClientHelloContents}
-use Rattle.server.specs.Server.{server}
-use Rattle.server.specs.Draft18.{draft18}
+use Rattle.server.specs.Server.{server, draft18}
 use Rattle.server.specs.declared.tlsv12.TlsServerHelloContents.{TlsServerHelloContents}
 use Rattle.server.specs.declared.tlsv13draft18.TlsServerHelloV13Draft18Contents.{TlsServerHelloV13Draft18Contents}
 use Rattle.message.specs.declared.keyexchange.TlsClientKeyExchangeContents.{TlsClientKeyExchangeContents}
@@ -215,12 +208,12 @@ headWrite n out = whereFits (leb n 16777215) 4 out
 
 -- every writer: s has the bytes that are written or that the views are of, and out is the output as lent
 pub record Writers (s out : List ℕ) : Type 0 where
-  pub clientHello : (c : TlsClientHelloContents) → comesTo (room (messageText 0x01 (helloText client s c)) 0 out) ≡ clientWrite s c out
-  pub serverHello : (c : TlsServerHelloContents) → comesTo (room (messageText 0x02 (helloText (server true) s c)) 0 out) ≡ serverWrite s c out
-  pub draft18Hello : (c : TlsServerHelloV13Draft18Contents) → comesTo (room (messageText 0x02 (helloText draft18 s c)) 0 out) ≡ draft18Write s c out
-  pub clientKeyExchange : (k : TlsClientKeyExchangeContents) → comesTo (room (messageText 0x10 (exchangeText s k)) 0 out) ≡ exchangeWrite s k out
-  pub finished : (v : View) → comesTo (room (messageText 0x14 (viewText s v)) 0 out) ≡ finishedWrite s v out
-  pub helloRequest : comesTo (room (messageText 0x00 (accepted [])) 0 out) ≡ requestWrite out
+  pub clientHello : (c : TlsClientHelloContents) → comesTo (room (messageText (headText 0x01) (helloText client s c)) 0 out) ≡ clientWrite s c out
+  pub serverHello : (c : TlsServerHelloContents) → comesTo (room (messageText (headText 0x02) (helloText (server true) s c)) 0 out) ≡ serverWrite s c out
+  pub draft18Hello : (c : TlsServerHelloV13Draft18Contents) → comesTo (room (messageText (headText 0x02) (helloText draft18 s c)) 0 out) ≡ draft18Write s c out
+  pub clientKeyExchange : (k : TlsClientKeyExchangeContents) → comesTo (room (messageText (headText 0x10) (exchangeText s k)) 0 out) ≡ exchangeWrite s k out
+  pub finished : (v : View) → comesTo (room (messageText (headText 0x14) (viewText s v)) 0 out) ≡ finishedWrite s v out
+  pub helloRequest : comesTo (room (messageText (headText 0x00) (accepted [])) 0 out) ≡ requestWrite out
   pub handshake : (m : TlsMessageHandshake) → comesTo (room (handshakeText s m) 0 out) ≡ handshakeWrite s m out
   pub plaintext : (hdr : TlsRecordHeader) → comesTo (room (recordText hdr s) 0 out) ≡ recordWrite s out
   -- what they are made of
@@ -228,9 +221,6 @@ pub record Writers (s out : List ℕ) : Type 0 where
   pub bytes : (at : ℕ) → comesTo (room (accepted s) at out) ≡ bytesWrite s at out
   pub field : (w : Width) (k : Kind) (at : ℕ) → comesTo (room (fieldText (counted (bytesIn w) (ruleOf k)) s) at out) ≡ fieldWrite w k s at out
   pub head : (kind n : ℕ) → comesTo (room (headText kind n) 0 out) ≡ headWrite n out
-
-abbrev pub EveryWriting : Type 0
-EveryWriting = (s out : List ℕ) → Writers s out
 
 -- a number is one of these
 abbrev pub isOne : List ℕ → ℕ → Bool
@@ -263,12 +253,12 @@ givenForHearing = 0 ∷ numberOf BadLength ∷ numberOf NotYetImplemented ∷ []
 
 -- the numbers that each writer gives, and no other
 pub record OnlyTheirs (s out : List ℕ) : Type 0 where
-  pub clientHello : (c : TlsClientHelloContents) → Among givenForLengths (room (messageText 0x01 (helloText client s c)) 0 out)
-  pub serverHello : (c : TlsServerHelloContents) → Among givenForLengths (room (messageText 0x02 (helloText (server true) s c)) 0 out)
-  pub draft18Hello : (c : TlsServerHelloV13Draft18Contents) → Among givenForLengths (room (messageText 0x02 (helloText draft18 s c)) 0 out)
-  pub clientKeyExchange : (k : TlsClientKeyExchangeContents) → Among givenForLengths (room (messageText 0x10 (exchangeText s k)) 0 out)
-  pub finished : (v : View) → Among givenForLengths (room (messageText 0x14 (viewText s v)) 0 out)
-  pub helloRequest : Among givenForRoom (room (messageText 0x00 (accepted [])) 0 out)
+  pub clientHello : (c : TlsClientHelloContents) → Among givenForLengths (room (messageText (headText 0x01) (helloText client s c)) 0 out)
+  pub serverHello : (c : TlsServerHelloContents) → Among givenForLengths (room (messageText (headText 0x02) (helloText (server true) s c)) 0 out)
+  pub draft18Hello : (c : TlsServerHelloV13Draft18Contents) → Among givenForLengths (room (messageText (headText 0x02) (helloText draft18 s c)) 0 out)
+  pub clientKeyExchange : (k : TlsClientKeyExchangeContents) → Among givenForLengths (room (messageText (headText 0x10) (exchangeText s k)) 0 out)
+  pub finished : (v : View) → Among givenForLengths (room (messageText (headText 0x14) (viewText s v)) 0 out)
+  pub helloRequest : Among givenForRoom (room (messageText (headText 0x00) (accepted [])) 0 out)
   pub handshake : (m : TlsMessageHandshake) → Among givenForMessages (room (handshakeText s m) 0 out)
   pub plaintext : (hdr : TlsRecordHeader) → Among givenForRecords (room (recordText hdr s) 0 out)
   pub number : (w : Width) (n at : ℕ) → Among givenForLengths (room (numberText (bytesIn w) n) at out)
@@ -277,9 +267,6 @@ pub record OnlyTheirs (s out : List ℕ) : Type 0 where
   pub head : (kind n : ℕ) → Among givenForLengths (room (headText kind n) 0 out)
   -- of numbers that tell of a message to be written
   pub hearing : isOne givenForHearing (numberIn (heard s)) ≡ true
-
-abbrev pub EveryNumber : Type 0
-EveryNumber = (s out : List ℕ) → OnlyTheirs s out
 
 -- "The type decides": 0x00, "0x01, 0x02: the hellos", 0x10, 0x14; a kind that is not written has none
 unfoldable pub typeWritten : TlsMessageHandshake → Option ℕ
@@ -300,7 +287,3 @@ typeWritten (CertificateVerify v) = none
 typeWritten (CertificateStatus c) = none
 typeWritten (NextProtocol c) = none
 typeWritten (KeyUpdate n) = none
-
--- "A message is type 1, length 3, body": a text begins with its type
-abbrev pub EveryType : Type 0
-EveryType = (s : List ℕ) (m : TlsMessageHandshake) (t : List ℕ) → handshakeText s m ≡ accepted t → some (getD t 0 0) ≡ typeWritten m

@@ -3,21 +3,21 @@ use Prim.Native.Nat.{ℕ}
 use mathlib.Core.Path.{_≡_, ap, _∙_}
 use native.Mathlib.Omega.{arith}
 use denote.Ref.{now}
-use Rattle.refusal.specs.Refusals.{numberOf, refusal}
+use Rattle.refusal.specs.Refusals.{numberOf, unplaced}
 use Rattle.refusal.specs.declared.Reason.the-variants.{NoRoom}
 use Rattle.refusal.specs.declared.Refusal.{Refusal}
-use Rattle.refusal.proofs.Told.{its-reason}
+use Rattle.refusal.proofs.Told.{unplaced-reason}
 use borrow.Author.Needs.{needs}
 use Rattle.array.proofs.Tells.{in-room, no-room}
 use Rattle.array.proofs.gen_numbers.Statement.{statement}
 use Rattle.array.proofs.gen_numbers.Tie as tie
 
 -- the number that is said is NoRoom's
-number : {n : ℕ} {r : Refusal} → n ≡ numberOf (r .reason) → r ≡ refusal NoRoom 0 0 → n ≡ numberOf NoRoom
-number e q = e ∙ ap (λ (r : Refusal). numberOf (r .reason)) q ∙ ap numberOf (its-reason NoRoom 0 0)
+number : {n : ℕ} {r : Refusal} → n ≡ numberOf (r .reason) → r ≡ unplaced NoRoom → n ≡ numberOf NoRoom
+number e q = e ∙ ap (λ (r : Refusal). numberOf (r .reason)) q ∙ ap numberOf (unplaced-reason NoRoom)
 
-refuse-requires : tie.Need-refuse-requires
-refuse-requires c κs = search needs
+unplaced-requires : tie.Need-unplaced-requires
+unplaced-requires c κs = search needs
 
 refusal-number-requires : tie.Need-refusal-number-requires
 refusal-number-requires c κs = search needs
@@ -27,7 +27,7 @@ returns c =
     let n = c .before in
     let a = n .before .before .before .before .args in
     let t = no-room (now (a .src)) (a .at) (now (a .out)) (omega arith) in
-    (number (n .refusal-number .ensures) (n .before .refuse .ensures) ∙ t .0, t .1)
+    (number (n .refusal-number .ensures) (n .before .unplaced .ensures) ∙ t .0, t .1)
 
 sub-if2 : tie.Need-sub-if2
 sub-if2 c = search needs
@@ -37,7 +37,7 @@ returns-2 c =
     let n = c .before .before in
     let a = n .before .before .before .before .args in
     let t = no-room (now (a .src)) (a .at) (now (a .out)) (omega arith) in
-    (number (n .refusal-number .ensures) (n .before .refuse .ensures) ∙ t .0, t .1)
+    (number (n .refusal-number .ensures) (n .before .unplaced .ensures) ∙ t .0, t .1)
 
 put-numbers-requires : tie.Need-put-numbers-requires
 put-numbers-requires c κs = search needs
@@ -56,7 +56,7 @@ pub gen-numbers-spec : {M : Type 1} → statement M
 gen-numbers-spec =
     tie.close
     (tie.spec
-    refuse-requires
+    unplaced-requires
     refusal-number-requires
     returns
     sub-if2

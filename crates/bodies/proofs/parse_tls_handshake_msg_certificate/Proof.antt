@@ -1,7 +1,6 @@
 -- `bodies::parse_tls_handshake_msg_certificate` meets its contract: what was read, as a message. Assumes nothing.
 use Rattle.refusal.proofs.Told.{case}
-use Rattle.certs.specs.Certificate.{certificateSays}
-use Rattle.bodies.specs.Bodies.{certificateMessage}
+use Rattle.certs.specs.Certs.{certificateSays}
 use borrow.Author.Needs.{needs}
 use Rattle.bodies.proofs.parse_tls_handshake_msg_certificate.Statement.{statement}
 use Rattle.bodies.proofs.parse_tls_handshake_msg_certificate.Tie as tie
@@ -16,11 +15,9 @@ enum-known-c : tie.Need-enum-known-c
 enum-known-c c = search needs
 
 returns : tie.Need-returns
-unfolding certificateMessage
 returns c = rw (case certificateSays (c .before .before .before .parse-tls-certificate .ensures) (c .before .r .given .1))
 
 returns-2 : tie.Need-returns-2
-unfolding certificateMessage
 returns-2 c = rw (case certificateSays (c .before .before .before .parse-tls-certificate .ensures) (c .before .c .given .1))
 
 pub parse-tls-handshake-msg-certificate-spec : {M : Type 1} → statement M

@@ -1,7 +1,6 @@
 -- `bodies::parse_tls_handshake_msg_certificaterequest` meets its contract: what was read, as a message. Assumes nothing.
 use Rattle.refusal.proofs.Told.{case}
-use Rattle.certs.specs.Request.{requestSays}
-use Rattle.bodies.specs.Bodies.{requestMessage}
+use Rattle.certs.specs.Certs.{requestSays}
 use borrow.Author.Needs.{needs}
 use Rattle.bodies.proofs.parse_tls_handshake_msg_certificaterequest.Statement.{statement}
 use Rattle.bodies.proofs.parse_tls_handshake_msg_certificaterequest.Tie as tie
@@ -17,11 +16,9 @@ enum-known-c : tie.Need-enum-known-c
 enum-known-c c = search needs
 
 returns : tie.Need-returns
-unfolding requestMessage
 returns c = rw (case requestSays (c .before .before .before .parse-tls-handshake-certificaterequest .ensures) (c .before .r .given .1))
 
 returns-2 : tie.Need-returns-2
-unfolding requestMessage
 returns-2 c = rw (case requestSays (c .before .before .before .parse-tls-handshake-certificaterequest .ensures) (c .before .c .given .1))
 
 pub parse-tls-handshake-msg-certificaterequest-spec : {M : Type 1} → statement M

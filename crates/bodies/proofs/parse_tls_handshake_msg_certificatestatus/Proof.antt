@@ -1,7 +1,6 @@
 -- `bodies::parse_tls_handshake_msg_certificatestatus` meets its contract: what was read, as a message. Assumes nothing.
 use Rattle.refusal.proofs.Told.{case}
-use Rattle.certs.specs.Status.{statusSays}
-use Rattle.bodies.specs.Bodies.{statusMessage}
+use Rattle.certs.specs.Certs.{statusSays}
 use borrow.Author.Needs.{needs}
 use Rattle.bodies.proofs.parse_tls_handshake_msg_certificatestatus.Statement.{statement}
 use Rattle.bodies.proofs.parse_tls_handshake_msg_certificatestatus.Tie as tie
@@ -17,11 +16,9 @@ enum-known-c : tie.Need-enum-known-c
 enum-known-c c = search needs
 
 returns : tie.Need-returns
-unfolding statusMessage
 returns c = rw (case statusSays (c .before .before .before .parse-tls-handshake-certificatestatus .ensures) (c .before .r .given .1))
 
 returns-2 : tie.Need-returns-2
-unfolding statusMessage
 returns-2 c = rw (case statusSays (c .before .before .before .parse-tls-handshake-certificatestatus .ensures) (c .before .c .given .1))
 
 pub parse-tls-handshake-msg-certificatestatus-spec : {M : Type 1} → statement M

@@ -3,7 +3,6 @@ use native.Mathlib.Omega.{arith}
 use Rattle.refusal.proofs.Told.{case}
 use Rattle.wire.specs.Numbers.{numberSays}
 use Rattle.wire.proofs.Numbers.{below-limit}
-use Rattle.bodies.specs.Bodies.{keyUpdateMessage}
 use borrow.Author.Needs.{needs}
 use Rattle.bodies.proofs.parse_tls_handshake_msg_key_update.Statement.{statement}
 use Rattle.bodies.proofs.parse_tls_handshake_msg_key_update.Tie as tie
@@ -21,11 +20,9 @@ cast-t7 : tie.Need-cast-t7
 cast-t7 c = omega (arith, below-limit 1 (c .before .before .before .before .parse-be .ensures .1) (c .before .before .n .given .1))
 
 returns : tie.Need-returns
-unfolding keyUpdateMessage
 returns c = rw (case numberSays (c .before .before .before .parse-be .ensures .0) (c .before .r .given .1))
 
 returns-2 : tie.Need-returns-2
-unfolding keyUpdateMessage
 returns-2 c = rw (case numberSays (c .before .before .before .before .parse-be .ensures .0) (c .before .before .n .given .1))
 
 pub parse-tls-handshake-msg-key-update-spec : {M : Type 1} → statement M

@@ -1,7 +1,6 @@
 -- `bodies::parse_tls_handshake_msg_newsessionticket` meets its contract: what was read, as a message. Assumes nothing.
 use Rattle.refusal.proofs.Told.{case}
-use Rattle.body.specs.Ticket.{ticketSays}
-use Rattle.bodies.specs.Bodies.{ticketMessage}
+use Rattle.body.specs.Body.{ticketSays}
 use borrow.Author.Needs.{needs}
 use Rattle.bodies.proofs.parse_tls_handshake_msg_newsessionticket.Statement.{statement}
 use Rattle.bodies.proofs.parse_tls_handshake_msg_newsessionticket.Tie as tie
@@ -16,11 +15,9 @@ enum-known-c : tie.Need-enum-known-c
 enum-known-c c = search needs
 
 returns : tie.Need-returns
-unfolding ticketMessage
 returns c = rw (case ticketSays (c .before .before .before .parse-tls-newsessionticket .ensures) (c .before .r .given .1))
 
 returns-2 : tie.Need-returns-2
-unfolding ticketMessage
 returns-2 c = rw (case ticketSays (c .before .before .before .parse-tls-newsessionticket .ensures) (c .before .c .given .1))
 
 pub parse-tls-handshake-msg-newsessionticket-spec : {M : Type 1} → statement M

@@ -1,7 +1,6 @@
 -- `bodies::parse_tls_handshake_msg_next_protocol` meets its contract: what was read, as a message. Assumes nothing.
 use Rattle.refusal.proofs.Told.{case}
-use Rattle.body.specs.NextProtocol.{nextProtocolSays}
-use Rattle.bodies.specs.Bodies.{nextProtocolMessage}
+use Rattle.body.specs.Body.{nextProtocolSays}
 use borrow.Author.Needs.{needs}
 use Rattle.bodies.proofs.parse_tls_handshake_msg_next_protocol.Statement.{statement}
 use Rattle.bodies.proofs.parse_tls_handshake_msg_next_protocol.Tie as tie
@@ -16,11 +15,9 @@ enum-known-c : tie.Need-enum-known-c
 enum-known-c c = search needs
 
 returns : tie.Need-returns
-unfolding nextProtocolMessage
 returns c = rw (case nextProtocolSays (c .before .before .before .parse-tls-handshake-next-protocol .ensures) (c .before .r .given .1))
 
 returns-2 : tie.Need-returns-2
-unfolding nextProtocolMessage
 returns-2 c = rw (case nextProtocolSays (c .before .before .before .parse-tls-handshake-next-protocol .ensures) (c .before .c .given .1))
 
 pub parse-tls-handshake-msg-next-protocol-spec : {M : Type 1} → statement M

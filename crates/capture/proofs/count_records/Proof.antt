@@ -1,6 +1,7 @@
 -- `capture::count_records` meets its contract: what was counted and what is left are all the records. Assumes nothing.
-use Prim.Native.Nat.{_+_, _-_, _≤_}
+use Prim.Native.Nat.{ℕ, _+_, _-_, _≤_}
 use mathlib.Core.Path.{_≡_, sym, ap, _∙_}
+use mathlib.Core.List.{List, foldl, foldr}
 use native.Mathlib.Omega.{arith}
 use borrow.Author.Needs.{needs}
 use denote.Ref.{now}
@@ -9,15 +10,22 @@ use Rattle.refusal.proofs.Told.{case}
 use Rattle.list.proofs.Walk.{rest-all, rest-on, rest-end}
 use Rattle.record.specs.Records.{rawSays}
 use Rattle.record.specs.declared.TlsRawRecord.{TlsRawRecord}
-use Rattle.capture.specs.Captures.{recordFrom, records, pastRecords, messagesOfAll, tallied}
+use Rattle.capture.specs.Captures.{recordFrom, records, messagesIn, tallied}
 use Rattle.capture.proofs.Captures.{left, by-records, from-lies, few-messages}
 use Rattle.capture.proofs.count_records.Statement.{statement}
 use Rattle.capture.proofs.count_records.Tie as tie
 
+-- the messages of records, and the place past them, the first beginning at a place
+abbrev sum : List ℕ → List TlsRawRecord → ℕ
+sum s rs = foldr (λ (r : TlsRawRecord) n. messagesIn s r + n) 0 rs
+
+abbrev past : List TlsRawRecord → ℕ → ℕ
+past rs at = foldl (λ (at : ℕ) (r : TlsRawRecord). r .next) at rs
+
 abbrev Inv-loop : tie.InvT-loop
 Inv-loop s records₀ messages₀ end₀ n m end =
-    (n ≤ end) × (m ≤ end) × (length (records s) ≡ n + length (left s end)) × (messagesOfAll s (records s) ≡ m + messagesOfAll s (left s end))
-    × (pastRecords (records s) 0 ≡ pastRecords (left s end) end)
+    (n ≤ end) × (m ≤ end) × (length (records s) ≡ n + length (left s end)) × (sum s (records s) ≡ m + sum s (left s end))
+    × (past (records s) 0 ≡ past (left s end) end)
 
 abbrev μ-loop : tie.MeasureT-loop
 μ-loop s records₀ messages₀ end₀ n m end = length s - end
@@ -26,7 +34,7 @@ loop-holds : tie.Need-loop-holds Inv-loop μ-loop
 loop-holds c =
     let s = now (c .before .args .s) in
     let e : records s ≡ left s 0 = rest-all (recordFrom s) (λ (r : TlsRawRecord). r .next) (length s) in
-    (omega arith, omega arith, omega (arith, ap length e), omega (arith, ap (messagesOfAll s) e), ap (λ rs. pastRecords rs 0) e)
+    (omega arith, omega arith, omega (arith, ap length e), omega (arith, ap (sum s) e), ap (λ rs. past rs 0) e)
 
 record-from-requires : tie.Need-record-from-requires Inv-loop μ-loop
 record-from-requires c κs = search needs
@@ -35,15 +43,15 @@ enum-told : tie.Need-enum-told Inv-loop μ-loop
 enum-told c = search needs
 
 returns : tie.Need-returns Inv-loop μ-loop
-unfolding tallied pastRecords messagesOfAll
+unfolding tallied
 returns c =
     let l = c .before .before .before in
     let e = case rawSays (c .before .before .record-from .ensures) (c .enum-told .given .1) in
     let z = rest-end (by-records _) (l .loop .end) e in
     let i = l .loop .inv in
     let n : l .loop .records ≡ length (records (now (l .before .before .args .s))) = sym (i .2 ∙ rw z (omega arith)) in
-    let m : l .loop .messages ≡ messagesOfAll _ (records (now (l .before .before .args .s))) = sym (i .3 ∙ rw z (omega arith)) in
-    let p : l .loop .end ≡ pastRecords (records (now (l .before .before .args .s))) 0 = sym (i .4 ∙ rw z) in
+    let m : l .loop .messages ≡ sum _ (records (now (l .before .before .args .s))) = sym (i .3 ∙ rw z (omega arith)) in
+    let p : l .loop .end ≡ past (records (now (l .before .before .args .s))) 0 = sym (i .4 ∙ rw z) in
     rw (n, m, p)
 
 enum-known-r : tie.Need-enum-known-r Inv-loop μ-loop
@@ -77,7 +85,6 @@ loop-less c =
     omega (arith, i, f, c .messages-in .ensures)
 
 loop-again : tie.Need-loop-again Inv-loop μ-loop
-unfolding pastRecords messagesOfAll
 loop-again c =
     let l = c .before .before .before .before .before in
     let e = case rawSays (c .before .before .before .before .record-from .ensures) (c .before .before .r .given .1) in

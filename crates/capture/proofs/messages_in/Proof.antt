@@ -1,5 +1,4 @@
 -- `capture::messages_in` meets its contract: the record's type decides. Assumes nothing.
-use mathlib.Core.Path.{_≡_}
 use borrow.Author.Needs.{needs}
 use borrow.Author.Tests.{eq-eqb, ne-eqb}
 use Rattle.capture.specs.Captures.{messagesIn}

@@ -1,13 +1,10 @@
 -- `capture::record_from` meets its contract: a record that was read at a place lies within the bytes from there on. Assumes nothing.
-use mathlib.Core.Path.{_≡_, _∙_}
 use native.Mathlib.Omega.{arith}
 use borrow.Author.Needs.{needs}
 use denote.Ref.{now}
 use lib.ListN.{length-drop, drop}
-use Rattle.refusal.specs.Answers.{accepted}
 use Rattle.refusal.proofs.Told.{case}
-use Rattle.grammar.specs.Forms.{reading}
-use Rattle.record.specs.Records.{raw, rawSays}
+use Rattle.record.specs.Records.{rawSays}
 use Rattle.capture.specs.Captures.{recordFrom}
 use Rattle.capture.proofs.Captures.{raw-lies}
 use Rattle.capture.proofs.record_from.Statement.{statement}

@@ -2,7 +2,6 @@
 use borrow.Author.Needs.{needs}
 use Rattle.refusal.proofs.Told.{case}
 use Rattle.wire.specs.Parts.{partSays}
-use Rattle.chain.specs.Chain.{pastCert}
 use Rattle.chain.proofs.past_cert.Statement.{statement}
 use Rattle.chain.proofs.past_cert.Tie as tie
 
@@ -16,11 +15,9 @@ enum-known-p : tie.Need-enum-known-p
 enum-known-p c = search needs
 
 returns : tie.Need-returns
-unfolding pastCert
 returns c = rw (case partSays (c .before .before .cert-in .ensures) (c .enum-told .given .1))
 
 returns-2 : tie.Need-returns-2
-unfolding pastCert
 returns-2 c = rw (case partSays (c .before .before .before .cert-in .ensures) (c .before .p .given .1))
 
 pub past-cert-spec : {M : Type 1} → statement M

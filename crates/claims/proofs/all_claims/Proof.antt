@@ -5,6 +5,7 @@ use Rattle.wire.proofs.Parts.{one-part}
 use Rattle.wire.proofs.Numbers.{one-number, every-width}
 use Rattle.wire.proofs.Puts.{one-write}
 use Rattle.field.specs.Fields.{fixed, sized}
+use Rattle.list.proofs.Fields.{none-more}
 use Rattle.list.proofs.Listed.{by-items}
 use Rattle.hello.proofs.Begun.{one-start}
 use Rattle.client.proofs.Whole as client
@@ -20,6 +21,7 @@ use Rattle.record.proofs.Whole as records
 use Rattle.plaintext.proofs.Answers.{one-plaintext, one-opened}
 use Rattle.capture.proofs.Captures.{same-bytes}
 use Rattle.hear.proofs.Again.{heard-again}
+use Rattle.wayback.proofs.Hellos.{every-text}
 use Rattle.wayback.proofs.Demand3 as back
 use Rattle.wayback.proofs.WayBack.{way-back}
 use Rattle.readings.proofs.Rows.{each-row}
@@ -56,33 +58,33 @@ returns c = record {
   oneOpened = one-opened;
   numbers = every-width;
   readsClient = client.demand3;
-  readsServer = λ hasExt s b. server.demand3 s b .serverHello hasExt;
-  readsDraft18 = λ s b. server.demand3 s b .draft18Hello;
-  readsByVersion = λ s b. server.demand3 s b .byItsVersion;
+  readsServer = server.demand3;
+  readsDraft18 = server.demand3-draft18;
+  readsByVersion = server.demand3-by-version;
   readsAsMessage = hellos.demand3;
-  writesClient = λ s b. back.demand3 .writing s b .clientHello;
-  writesServer = λ hasExt s b. back.demand3 .writing s b .serverHello hasExt;
-  writesDraft18 = λ s b. back.demand3 .writing s b .draft18Hello;
-  writesByVersion = λ s b. back.demand3 .writing s b .byItsVersion;
-  writesOneText = back.demand3 .one-text;
-  againClient = λ s b. back.demand3 .reading-again s b .clientHello;
-  againServer = λ hasExt s b. back.demand3 .reading-again s b .serverHello hasExt;
-  againDraft18 = λ s b. back.demand3 .reading-again s b .draft18Hello;
-  againByVersion = λ s b. back.demand3 .reading-again s b .byItsVersion;
-  againUnlisted = λ s b. back.demand3 .reading-again s b .unlisted;
+  everyText = every-text;
+  writesClient = back.writes-client;
+  writesServer = back.writes-server;
+  writesDraft18 = back.writes-draft18;
+  writesByVersion = back.writes-by-version;
+  writesOneText = back.one-text;
+  againClient = back.again-client;
+  againServer = back.again-server;
+  againDraft18 = back.again-draft18;
+  againByVersion = back.again-by-version;
   lists = by-items;
+  noneMore = none-more;
   names = by-items (sized 2) (omega arith);
   certificates = by-items (sized 3) (omega arith);
   methods = by-items (fixed 1) (omega arith);
   ciphers = by-items (fixed 2) (omega arith);
-  splitsCertificate = λ s b. certs.all-bodies s b .ofCertificate;
-  splitsLong = λ s b. certs.all-bodies s b .ofLongRequest;
-  splitsShort = λ s b. certs.all-bodies s b .ofShortRequest;
-  chooses = λ s b. certs.all-bodies s b .ofRequest;
-  splitsStatus = λ s b. certs.all-bodies s b .ofStatus;
-  splitsRetry = λ s b. body.all-bodies s b .ofRetry;
-  splitsNextProtocol = λ s b. body.all-bodies s b .ofNextProtocol;
-  ticket = λ n s b. body.all-bodies s b .ofTicket n;
+  splitsCertificate = certs.splits-certificate;
+  splitsRequest = certs.splits-request;
+  chooses = certs.of-request;
+  splitsStatus = certs.splits-status;
+  splitsRetry = body.splits-retry;
+  splitsNextProtocol = body.splits-next-protocol;
+  ticket = body.of-ticket;
   splitsRecord = records.all-records;
   walks = every-walk;
   readers = every-reader;

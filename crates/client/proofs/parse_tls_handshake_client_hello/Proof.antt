@@ -12,7 +12,7 @@ use Rattle.grammar.proofs.Chain.{So, begin, and, stop, stop-all, end}
 use Rattle.hello.specs.Start.{startSays}
 use Rattle.client.specs.Client.{client}
 use Rattle.client.proofs.Whole.{demand3}
-use Rattle.hello.proofs.Begun.{startFields, Begun, begun, not-begun, after}
+use Rattle.hello.proofs.Begun.{startRows, Begun, begun, not-begun, after}
 use borrow.Author.Needs.{needs}
 use Rattle.client.proofs.parse_tls_handshake_client_hello.Statement.{statement}
 use Rattle.client.proofs.parse_tls_handshake_client_hello.Tie as tie
@@ -60,7 +60,7 @@ enum-known-r c = search needs
 
 returns : tie.Need-returns
 returns c = (
-  sym (stop-all startFields (ciphers ∷ methods ∷ []) (begin client _) (not-begun _ (case startSays (c .before .before .before .parse-start .ensures) (c .before .r .given .1)))),
+  sym (stop-all startRows (ciphers ∷ methods ∷ []) (begin client _) (not-begun _ (case startSays (c .before .before .before .parse-start .ensures) (c .before .r .given .1)))),
   split (c .before .before .before .before),
 )
 

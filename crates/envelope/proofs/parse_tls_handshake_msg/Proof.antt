@@ -5,7 +5,7 @@ use mathlib.Core.Logic.{_⊎_, inl, inr, ⊎-elim}
 use mathlib.Core.List.{List}
 use borrow.Author.Tests.{ne-eqb}
 use Rattle.refusal.specs.Answers.{refused}
-use Rattle.refusal.specs.Refusals.{refusal}
+use Rattle.refusal.specs.Refusals.{unplaced}
 use Rattle.refusal.specs.declared.Reason.the-variants.{Switch}
 use Rattle.envelope.specs.Opening.{opened}
 use borrow.Author.Needs.{needs}
@@ -13,7 +13,7 @@ use Rattle.envelope.proofs.parse_tls_handshake_msg.Statement.{statement
 use Rattle.envelope.proofs.parse_tls_handshake_msg.Tie as tie
 
 -- the types in the last arm that stand alone
-lone : (k n : ℕ) (s : List ℕ) → (k ≡ 0x03) ⊎ ((k ≡ 0x15) ⊎ (k ≡ 0x17)) → opened k n s ≡ refused (refusal Switch 0 0)
+lone : (k n : ℕ) (s : List ℕ) → (k ≡ 0x03) ⊎ ((k ≡ 0x15) ⊎ (k ≡ 0x17)) → opened k n s ≡ refused (unplaced Switch)
 unfolding opened
 lone k n s (inl e) = rw e
 lone k n s (inr (inl e)) = rw e
@@ -76,8 +76,8 @@ parse-tls-handshake-msg-next-protocol-requires :
     tie.Need-parse-tls-handshake-msg-next-protocol-requires
 parse-tls-handshake-msg-next-protocol-requires c κs = search needs
 
-refuse-requires : tie.Need-refuse-requires
-refuse-requires c κs = search needs
+unplaced-requires : tie.Need-unplaced-requires
+unplaced-requires c κs = search needs
 
 returns : tie.Need-returns
 unfolding opened
@@ -147,7 +147,7 @@ returns-17 : tie.Need-returns-17
 unfolding opened
 returns-17 c =
     let k = c .before .before .before .args .kind in
-    ap refused (c .refuse .ensures)
+    ap refused (c .unplaced .ensures)
     ∙ sym (⊎-elim (λ w. lone k _ _ (w .keys17)) (λ w. let m = w .rest in rw (ne-eqb k 0x00 (m .0 .0 .0 .0 .0 .0 .0 .0 .0 .0 .0 .0 .0 .0 .0 .0 .1), ne-eqb k 0x01 (m .0 .0 .0 .0 .0 .0 .0 .0 .0 .0 .0 .0 .0 .0 .0 .1), ne-eqb k 0x02 (m .0 .0 .0 .0 .0 .0 .0 .0 .0 .0 .0 .0 .0 .0 .1), ne-eqb k 0x04 (m .0 .0 .0 .0 .0 .0 .0 .0 .0 .0 .0 .0 .0 .1), ne-eqb k 0x05 (m .0 .0 .0 .0 .0 .0 .0 .0 .0 .0 .0 .0 .1), ne-eqb k 0x06 (m .0 .0 .0 .0 .0 .0 .0 .0 .0 .0 .0 .1), ne-eqb k 0x0b (m .0 .0 .0 .0 .0 .0 .0 .0 .0 .0 .1), ne-eqb k 0x0c (m .0 .0 .0 .0 .0 .0 .0 .0 .0 .1), ne-eqb k 0x0d (m .0 .0 .0 .0 .0 .0 .0 .0 .1), ne-eqb k 0x0e (m .0 .0 .0 .0 .0 .0 .0 .1), ne-eqb k 0x0f (m .0 .0 .0 .0 .0 .0 .1), ne-eqb k 0x10 (m .0 .0 .0 .0 .0 .1), ne-eqb k 0x14 (m .0 .0 .0 .0 .1), ne-eqb k 0x16 (m .0 .0 .0 .1), ne-eqb k 0x18 (m .0 .0 .1), ne-eqb k 0x43 (m .0 .1))) (c .before .match .came))
 
 pub parse-tls-handshake-msg-spec : {M : Type 1} → statement M
@@ -169,7 +169,7 @@ parse-tls-handshake-msg-spec =
     parse-tls-handshake-msg-certificatestatus-requires
     parse-tls-handshake-msg-key-update-requires
     parse-tls-handshake-msg-next-protocol-requires
-    refuse-requires
+    unplaced-requires
     returns
     returns-2
     returns-3

@@ -3,8 +3,7 @@ use mathlib.Core.Path.{ap}
 use Rattle.refusal.specs.Answers.{refused}
 use Rattle.refusal.proofs.Told.{case}
 use Rattle.message.specs.Messages.{messageSays}
-use Rattle.envelope.specs.Heads.{headSays}
-use Rattle.envelope.specs.Opening.{message}
+use Rattle.envelope.specs.Opening.{headSays, message}
 use Rattle.envelope.proofs.Heads.{met-no-head, met-no-body, met-got}
 use borrow.Author.Needs.{needs}
 use Rattle.envelope.proofs.parse_tls_message_handshake.Statement.{statement}

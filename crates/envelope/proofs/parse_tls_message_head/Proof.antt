@@ -4,7 +4,7 @@ use Rattle.refusal.proofs.Told.{case}
 use Rattle.wire.specs.Parts.{partSays}
 use Rattle.wire.specs.Numbers.{numberSays}
 use Rattle.wire.proofs.Numbers.{below-limit}
-use Rattle.envelope.specs.Heads.{headAt}
+use Rattle.envelope.specs.Opening.{headAt}
 use borrow.Author.Needs.{needs}
 use Rattle.envelope.proofs.parse_tls_message_head.Statement.{statement}
 use Rattle.envelope.proofs.parse_tls_message_head.Tie as tie

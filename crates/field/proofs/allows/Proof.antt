@@ -1,5 +1,7 @@
 -- `field::allows` meets its contract, case by case. Assumes nothing.
+use mathlib.Core.Path.{sym}
 use borrow.Author.Needs.{needs}
+use Rattle.field.proofs.Rules.{unless-is}
 use Rattle.field.proofs.allows.Statement.{statement}
 use Rattle.field.proofs.allows.Tie as tie
 
@@ -22,16 +24,16 @@ returns : tie.Need-returns
 returns c = search needs
 
 returns-2 : tie.Need-returns-2
-returns-2 c = rw (c .enum-told2 .given .1)
+returns-2 c = rw (c .enum-told2 .given .1) (sym (unless-is _ _))
 
 returns-3 : tie.Need-returns-3
-returns-3 c = rw (c .enum-told3 .given .1)
+returns-3 c = rw (c .enum-told3 .given .1) (sym (unless-is _ _))
 
 returns-4 : tie.Need-returns-4
 returns-4 c = search needs
 
 returns-5 : tie.Need-returns-5
-returns-5 c = rw (c .enum-told5 .given .1)
+returns-5 c = rw (c .enum-told5 .given .1) (sym (unless-is _ _))
 
 pub allows-spec : {M : Type 1} → statement M
 allows-spec =

@@ -5,7 +5,7 @@ use native.Mathlib.Omega.{arith}
 use Rattle.refusal.specs.Answers.{refused}
 use Rattle.refusal.proofs.Told.{case}
 use Rattle.wire.specs.Parts.{partSays}
-use Rattle.wire.proofs.Parts.{fits}
+use Rattle.wire.proofs.Parts.{room-fits}
 use Rattle.wire.proofs.Numbers.{width-bounds}
 use Rattle.field.specs.Fields.{ruleOf}
 use Rattle.field.proofs.Texts.{below, counted-not, counted-out, counted-in}
@@ -19,14 +19,14 @@ may-follow-requires c κs = search needs
 width-bytes-requires : tie.Need-width-bytes-requires
 width-bytes-requires c κs = search needs
 
-add-take-or : tie.Need-add-take-or
-add-take-or c =
+add-room-for : tie.Need-add-room-for
+add-room-for c =
     let m = c .before .before .before in
     let a = m .before .before .before .args in
     omega (arith, width-bounds (a .w), below _ (ruleOf (a .kind)) _ (width-bounds (a .w) .1) (sym (m .may-follow .ensures) ∙ c .before .before .if1 .taken))
 
-take-or-requires : tie.Need-take-or-requires
-take-or-requires c κs = search needs
+room-for-requires : tie.Need-room-for-requires
+room-for-requires c κs = search needs
 
 enum-known-r : tie.Need-enum-known-r
 enum-known-r c = search needs
@@ -40,7 +40,7 @@ gen-be-requires c κs = search needs
 add-gen-bytes : tie.Need-add-gen-bytes
 add-gen-bytes c =
     let p = c .before .before .before .before .before .before in
-    omega (arith, fits _ _ _ _ (case partSays (p .before .before .take-or .ensures) (p .p .given .1)) .inside)
+    omega (arith, room-fits _ _ _ (case partSays (p .before .before .room-for .ensures) (p .p .given .1)) .inside)
 
 gen-bytes-requires : tie.Need-gen-bytes-requires
 gen-bytes-requires c κs = search needs
@@ -48,8 +48,8 @@ gen-bytes-requires c κs = search needs
 unfit-requires : tie.Need-unfit-requires
 unfit-requires c κs = search needs
 
-refuse-requires : tie.Need-refuse-requires
-refuse-requires c κs = search needs
+unplaced-requires : tie.Need-unplaced-requires
+unplaced-requires c κs = search needs
 
 same-length : tie.Need-same-length
 same-length c = search needs
@@ -58,7 +58,7 @@ returns : tie.Need-returns
 returns c =
     let k = c .before .before .before in
     let m = k .before .before .before .before in
-    let e = case partSays (k .take-or .ensures) (c .before .r .given .1) in
+    let e = case partSays (k .room-for .ensures) (c .before .r .given .1) in
     let o = counted-out _ (ruleOf (m .before .before .before .args .kind)) _ _ _ (sym (m .may-follow .ensures) ∙ k .before .before .before .if1 .taken) (rw (k .before .before .width-bytes .ensures) at e) in
     (sym (o .says), sym (o .leaves))
 
@@ -73,7 +73,7 @@ returns-2 c =
     let k = p .before .before in
     let m = k .before .before .before .before in
     let w = k .before .before .width-bytes .ensures in
-    let e = case partSays (k .take-or .ensures) (p .p .given .1) in
+    let e = case partSays (k .room-for .ensures) (p .p .given .1) in
     let o = counted-in _ (ruleOf (m .before .before .before .args .kind)) _ _ _ _ _ (sym (m .may-follow .ensures) ∙ k .before .before .before .if1 .taken) (rw w at e)
     (b .gen-be .ensures .1) (rw w at (g .gen-bytes .ensures .1)) in
     (sym (o .says), sym (o .leaves))
@@ -83,7 +83,7 @@ returns-3 c =
     let m = c .before .before .before in
     let a = m .before .before .before .args in
     let o = counted-not _ (ruleOf (a .kind)) _ _ _ (sym (m .may-follow .ensures) ∙ c .before .before .if1 .left) in
-    (ap refused (c .refuse .ensures ∙ rw (c .before .unfit .ensures)) ∙ sym (o .says), sym (o .leaves))
+    (ap refused (c .unplaced .ensures ∙ rw (c .before .unfit .ensures)) ∙ sym (o .says), sym (o .leaves))
 
 pub gen-length-data-spec : {M : Type 1} → statement M
 gen-length-data-spec =
@@ -91,15 +91,15 @@ gen-length-data-spec =
     (tie.spec
     may-follow-requires
     width-bytes-requires
-    add-take-or
-    take-or-requires
+    add-room-for
+    room-for-requires
     enum-known-r
     enum-known-p
     gen-be-requires
     add-gen-bytes
     gen-bytes-requires
     unfit-requires
-    refuse-requires
+    unplaced-requires
     same-length
     returns
     same-length-2

@@ -1,9 +1,9 @@
 -- `field::length_data` meets its contract: the length is not there, or not allowed, or decides the part. Assumes nothing.
-use mathlib.Core.Path.{ap}
-use Rattle.refusal.specs.Answers.{refused}
+use mathlib.Core.Path.{sym, _∙_}
 use Rattle.refusal.proofs.Told.{case}
 use Rattle.wire.specs.Numbers.{numberSays}
-use Rattle.field.specs.Fields.{step, ruled}
+use Rattle.field.specs.Fields.{ruleOf, step}
+use Rattle.field.proofs.Rules.{allows-none, ruled-in}
 use borrow.Author.Needs.{needs}
 use Rattle.field.proofs.length_data.Statement.{statement}
 use Rattle.field.proofs.length_data.Tie as tie
@@ -33,24 +33,21 @@ take-or-requires c κs = search needs
 broken-requires : tie.Need-broken-requires
 broken-requires c κs = search needs
 
-refuse-requires : tie.Need-refuse-requires
-refuse-requires c κs = search needs
-
 returns-2 : tie.Need-returns-2
-unfolding step ruled
+unfolding step
 returns-2 c =
     let t = c .before .before in
     let k = t .before .before .before in
-    rw (case numberSays (k .before .before .parse-be .ensures .0) (k .n .given .1), ← t .before .allows .ensures, t .if1 .taken, ← c .before .past .ensures)
-    (c .take-or .ensures)
+    let a = allows-none (ruleOf (k .before .before .before .before .args .kind)) (k .n .given .0 .0 .value) (sym (t .before .allows .ensures) ∙ t .if1 .taken) in
+    rw (case numberSays (k .before .before .parse-be .ensures .0) (k .n .given .1))
+    (rw (c .before .past .ensures) at (c .take-or .ensures) ∙ sym (ruled-in _ _ _ _ _ a))
 
 returns-3 : tie.Need-returns-3
-unfolding step ruled
+unfolding step
 returns-3 c =
-    let t = c .before .before in
+    let t = c .before in
     let k = t .before .before .before in
-    rw (case numberSays (k .before .before .parse-be .ensures .0) (k .n .given .1), ← t .before .allows .ensures, t .if1 .left, ← c .before .broken .ensures)
-    (ap refused (c .refuse .ensures))
+    rw (case numberSays (k .before .before .parse-be .ensures .0) (k .n .given .1)) (sym (c .broken .ensures _ _ (sym (t .before .allows .ensures) ∙ t .if1 .left)))
 
 pub length-data-spec : {M : Type 1} → statement M
 length-data-spec =
@@ -64,6 +61,5 @@ length-data-spec =
     past-requires
     take-or-requires
     broken-requires
-    refuse-requires
     returns-2
     returns-3)

@@ -9,8 +9,7 @@ use denote.Ref.{now}
 use Rattle.refusal.specs.Answers.{accepted}
 use Rattle.refusal.proofs.Told.{case}
 use Rattle.refusal.proofs.Then.{then-accepted}
-use Rattle.envelope.specs.Opening.{Met, metAt}
-use Rattle.envelope.specs.Heads.{headSays}
+use Rattle.envelope.specs.Opening.{Met, metAt, headSays}
 use Rattle.walk.specs.Walks.{metHead}
 use Rattle.walk.proofs.Walking.{behind, by-messages, head-not-met}
 use Rattle.fill.proofs.Blocks.{Reached, begun, found, ended, filled, tell}

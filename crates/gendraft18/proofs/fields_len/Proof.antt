@@ -2,7 +2,7 @@
 use mathlib.Core.Path.{sym}
 use native.Mathlib.Omega.{arith}
 use denote.Ref.{now}
-use Rattle.server.specs.Draft18.{draft18}
+use Rattle.server.specs.Server.{draft18}
 use Rattle.text.proofs.Hellos.{obeyed}
 use Rattle.gendraft18.proofs.Lengths.{draft18-length, draft18-bounds}
 use borrow.Author.Needs.{needs}

@@ -1,7 +1,7 @@
 -- `gendraft18::put_fields` meets its contract: the fields are put in one behind the other. Assumes nothing.
 use native.Mathlib.Omega.{arith}
 use denote.Ref.{now}
-use Rattle.server.specs.Draft18.{draft18}
+use Rattle.server.specs.Server.{draft18}
 use Rattle.text.proofs.Hellos.{obeyed}
 use Rattle.gendraft18.proofs.Fields.{draft18-put}
 use borrow.Author.Needs.{needs}

@@ -1,5 +1,5 @@
 -- `gendraft18::writable` meets its contract: the first part that may not be written decides. Assumes nothing.
-use Rattle.server.specs.Draft18.{draft18}
+use Rattle.server.specs.Server.{draft18}
 use Rattle.text.proofs.Mays.{begin, and, stop, end}
 use borrow.Author.Needs.{needs}
 use Rattle.gendraft18.proofs.writable.Statement.{statement}

@@ -45,8 +45,8 @@ enum-known-m-5 c = search needs
 gen-tls-finished-requires : tie.Need-gen-tls-finished-requires
 gen-tls-finished-requires c κs = search needs
 
-refuse-requires : tie.Need-refuse-requires
-refuse-requires c κs = search needs
+unplaced-requires : tie.Need-unplaced-requires
+unplaced-requires c κs = search needs
 
 same-length : tie.Need-same-length
 same-length c = search needs
@@ -94,7 +94,7 @@ returns-7 : tie.Need-returns-7
 returns-7 c =
     let a = c .before .before .before .before .args in
     let o = text-refused 0 (now (a .out)) (others (now (a .i)) (a .m) (c .before .match .keys7)) in
-    (ap refused (c .refuse .ensures) ∙ sym (o .says), sym (o .leaves))
+    (ap refused (c .unplaced .ensures) ∙ sym (o .says), sym (o .leaves))
 
 pub gen-tls-messagehandshake-spec : {M : Type 1} → statement M
 gen-tls-messagehandshake-spec =
@@ -112,7 +112,7 @@ gen-tls-messagehandshake-spec =
     gen-tls-clientkeyexchange-requires
     enum-known-m-5
     gen-tls-finished-requires
-    refuse-requires
+    unplaced-requires
     same-length
     returns
     same-length-2

@@ -14,21 +14,21 @@ use Rattle.genrecord.proofs.gen_tls_plaintext.Tie as tie
 may-follow-requires : tie.Need-may-follow-requires
 may-follow-requires c κs = search needs
 
-refuse-requires : tie.Need-refuse-requires
-refuse-requires c κs = search needs
+unplaced-requires : tie.Need-unplaced-requires
+unplaced-requires c κs = search needs
 
 returns : tie.Need-returns
 returns c =
     let m = c .before .before in
     let a = m .before .before .before .args in
     let o = record-not (a .hdr) _ _ (sym (m .may-follow .ensures) ∙ not-true _ (c .before .if1 .taken)) in
-    (ap refused (c .refuse .ensures) ∙ sym (o .says), sym (o .leaves))
+    (ap refused (c .unplaced .ensures) ∙ sym (o .says), sym (o .leaves))
 
-add-take-or : tie.Need-add-take-or
-add-take-or c = search needs
+add-room-for : tie.Need-add-room-for
+add-room-for c = search needs
 
-take-or-requires : tie.Need-take-or-requires
-take-or-requires c κs = search needs
+room-for-requires : tie.Need-room-for-requires
+room-for-requires c κs = search needs
 
 enum-known-r : tie.Need-enum-known-r
 enum-known-r c = search needs
@@ -59,7 +59,7 @@ returns-2 c =
     let k = c .before .before .before in
     let m = k .before .before .before in
     let a = m .before .before .before .args in
-    let o = record-out (a .hdr) _ _ (sym (m .may-follow .ensures) ∙ not-false _ (k .before .before .if1 .left)) (case partSays (k .take-or .ensures) (c .before .r .given .1)) in
+    let o = record-out (a .hdr) _ _ (sym (m .may-follow .ensures) ∙ not-false _ (k .before .before .if1 .left)) (case partSays (k .room-for .ensures) (c .before .r .given .1)) in
     (sym (o .says), sym (o .leaves))
 
 same-length-2 : tie.Need-same-length-2
@@ -75,7 +75,7 @@ returns-3 c =
     let m = k .before .before .before in
     let a = m .before .before .before .args in
     let o = record-in (a .hdr) _ _ (sym (m .may-follow .ensures) ∙ not-false _ (k .before .before .if1 .left)) _ _ _ (omega arith) (omega (arith, v .before .struct-known2 .given))
-    (case partSays (k .take-or .ensures) (p .p .given .1)) (t .gen-be .ensures .1) (v .gen-be2 .ensures .1) (l .gen-length-data .ensures .1) in
+    (case partSays (k .room-for .ensures) (p .p .given .1)) (t .gen-be .ensures .1) (v .gen-be2 .ensures .1) (l .gen-length-data .ensures .1) in
     (sym (o .says), sym (o .leaves))
 
 pub gen-tls-plaintext-spec : {M : Type 1} → statement M
@@ -83,10 +83,10 @@ gen-tls-plaintext-spec =
     tie.close
     (tie.spec
     may-follow-requires
-    refuse-requires
+    unplaced-requires
     returns
-    add-take-or
-    take-or-requires
+    add-room-for
+    room-for-requires
     enum-known-r
     enum-known-p
     cast-gen-be

@@ -1,12 +1,20 @@
 -- `hear::hear_exchange` meets its contract: the form decides. Assumes nothing.
+use mathlib.Core.Path.{_≡_, refl}
+use mathlib.Core.Option.{Option, none, some}
 use native.Mathlib.Omega.{arith}
 use borrow.Author.Tests.{le-leb, lt-leb, ne-eqb}
 use lib.ListN.{length}
 use denote.Ref.{now}
-use Rattle.hear.specs.Heard.{at, heardExchange}
+use Rattle.wire.specs.Parts.{ifSome}
+use Rattle.hear.specs.Heard.{at, bad, heardExchange}
 use borrow.Author.Needs.{needs}
 use Rattle.hear.proofs.hear_exchange.Statement.{statement}
 use Rattle.hear.proofs.hear_exchange.Tie as tie
+
+-- with too few numbers it is BadLength whatever the form
+either-way : {A : Type 0} (form : Option A) → ifSome form (λ f. bad) bad ≡ bad
+either-way none = refl
+either-way (some f) = refl
 
 bad-numbers-requires : tie.Need-bad-numbers-requires
 bad-numbers-requires c κs = search needs
@@ -15,7 +23,7 @@ returns : tie.Need-returns
 unfolding heardExchange
 returns c =
     let m = now (c .before .before .before .args .m) in
-    rw (lt-leb 4 (length m) (omega arith)) (c .bad-numbers .ensures)
+    rw (lt-leb 4 (length m) (omega arith), either-way) (c .bad-numbers .ensures)
 
 shared-slice-read-form : tie.Need-shared-slice-read-form
 shared-slice-read-form c = search needs

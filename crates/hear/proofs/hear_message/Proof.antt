@@ -35,8 +35,8 @@ hear-finished-requires c κs = search needs
 hear-draft18-requires : tie.Need-hear-draft18-requires
 hear-draft18-requires c κs = search needs
 
-refuse-requires : tie.Need-refuse-requires
-refuse-requires c κs = search needs
+unplaced-requires : tie.Need-unplaced-requires
+unplaced-requires c κs = search needs
 
 returns-2 : tie.Need-returns-2
 unfolding heard
@@ -79,7 +79,7 @@ unfolding heard
 returns-8 c =
     let m = now (c .before .before .before .before .before .args .m) in
     let r = c .before .match .rest in
-    rw (le-leb 1 (length m) (omega arith), ne-eqb (at m 0) 0 (r .0 .0 .0 .0 .0 .1), ne-eqb (at m 0) 1 (r .0 .0 .0 .0 .1), ne-eqb (at m 0) 2 (r .0 .0 .0 .1), ne-eqb (at m 0) 16 (r .0 .0 .1), ne-eqb (at m 0) 20 (r .0 .1), ne-eqb (at m 0) 0x7f12 (r .1), c .refuse .ensures)
+    rw (le-leb 1 (length m) (omega arith), ne-eqb (at m 0) 0 (r .0 .0 .0 .0 .0 .1), ne-eqb (at m 0) 1 (r .0 .0 .0 .0 .1), ne-eqb (at m 0) 2 (r .0 .0 .0 .1), ne-eqb (at m 0) 16 (r .0 .0 .1), ne-eqb (at m 0) 20 (r .0 .1), ne-eqb (at m 0) 0x7f12 (r .1), c .unplaced .ensures)
 
 pub hear-message-spec : {M : Type 1} → statement M
 hear-message-spec =
@@ -93,7 +93,7 @@ hear-message-spec =
     hear-exchange-requires
     hear-finished-requires
     hear-draft18-requires
-    refuse-requires
+    unplaced-requires
     returns-2
     returns-3
     returns-4

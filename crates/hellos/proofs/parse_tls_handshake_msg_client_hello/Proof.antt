@@ -1,7 +1,6 @@
 -- `hellos::parse_tls_handshake_msg_client_hello` meets its contract: what was read, as a message. Assumes nothing.
 use Rattle.refusal.proofs.Told.{case}
 use Rattle.client.specs.Client.{clientSays}
-use Rattle.hellos.specs.Hellos.{clientMessage}
 use borrow.Author.Needs.{needs}
 use Rattle.hellos.proofs.parse_tls_handshake_msg_client_hello.Statement.{statement}
 use Rattle.hellos.proofs.parse_tls_handshake_msg_client_hello.Tie as tie
@@ -16,11 +15,9 @@ enum-known-c : tie.Need-enum-known-c
 enum-known-c c = search needs
 
 returns : tie.Need-returns
-unfolding clientMessage
 returns c = rw (case clientSays (c .before .before .before .parse-tls-handshake-client-hello .ensures .0) (c .before .r .given .1))
 
 returns-2 : tie.Need-returns-2
-unfolding clientMessage
 returns-2 c = rw (case clientSays (c .before .before .before .parse-tls-handshake-client-hello .ensures .0) (c .before .c .given .1))
 
 pub parse-tls-handshake-msg-client-hello-spec : {M : Type 1} → statement M

@@ -1,11 +1,9 @@
 -- `hellos::parse_tls_handshake_msg_hello_request` meets its contract. Assumes nothing.
 use mathlib.Core.Path.{refl}
-use Rattle.hellos.specs.Hellos.{helloRequestMessage}
 use Rattle.hellos.proofs.parse_tls_handshake_msg_hello_request.Statement.{statement}
 use Rattle.hellos.proofs.parse_tls_handshake_msg_hello_request.Tie as tie
 
 returns : tie.Need-returns
-unfolding helloRequestMessage
 returns c = refl
 
 pub parse-tls-handshake-msg-hello-request-spec : {M : Type 1} → statement M

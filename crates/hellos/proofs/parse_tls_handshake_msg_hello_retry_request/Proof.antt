@@ -1,7 +1,6 @@
 -- `hellos::parse_tls_handshake_msg_hello_retry_request` meets its contract: what was read, as a message. Assumes nothing.
 use Rattle.refusal.proofs.Told.{case}
-use Rattle.body.specs.Retry.{retrySays}
-use Rattle.hellos.specs.Hellos.{retryMessage}
+use Rattle.body.specs.Body.{retrySays}
 use borrow.Author.Needs.{needs}
 use Rattle.hellos.proofs.parse_tls_handshake_msg_hello_retry_request.Statement.{statement}
 use Rattle.hellos.proofs.parse_tls_handshake_msg_hello_retry_request.Tie as tie
@@ -16,11 +15,9 @@ enum-known-c : tie.Need-enum-known-c
 enum-known-c c = search needs
 
 returns : tie.Need-returns
-unfolding retryMessage
 returns c = rw (case retrySays (c .before .before .before .parse-tls-hello-retry-request .ensures) (c .before .r .given .1))
 
 returns-2 : tie.Need-returns-2
-unfolding retryMessage
 returns-2 c = rw (case retrySays (c .before .before .before .parse-tls-hello-retry-request .ensures) (c .before .c .given .1))
 
 pub parse-tls-handshake-msg-hello-retry-request-spec : {M : Type 1} → statement M

@@ -2,8 +2,7 @@
 use borrow.Author.Tests.{eq-eqb, ne-eqb}
 use Rattle.refusal.proofs.Told.{case}
 use Rattle.wire.specs.Numbers.{numberSays}
-use Rattle.server.specs.Server.{serverSays}
-use Rattle.server.specs.Draft18.{draft18Says}
+use Rattle.server.specs.Server.{serverSays, draft18Says}
 use Rattle.hellos.specs.Hellos.{serverMessage}
 use borrow.Author.Needs.{needs}
 use Rattle.hellos.proofs.parse_tls_handshake_msg_server_hello.Statement.{statement}

@@ -2,7 +2,8 @@
 use native.Mathlib.Omega.{arith}
 use denote.Ref.{now}
 use Rattle.walk.proofs.Walking.{from-inside}
-use Rattle.plaintext.specs.Plaintext.{counted}
+use Rattle.plaintext.specs.Plaintext.{plainRecord}
+use Rattle.plaintext.proofs.Opened.{first-inside, first-counted, first-dropped}
 use borrow.Author.Needs.{needs}
 use Rattle.plaintext.proofs.count_others.Statement.{statement}
 use Rattle.plaintext.proofs.count_others.Tie as tie
@@ -14,21 +15,22 @@ add-t7 : tie.Need-add-t7
 add-t7 c =
     let k = c .before in
     let a = k .before .before .before .before in
-    let i = from-inside (now (a .args .content)) (a .args .next) (a .pre) in
+    let i = from-inside (now (a .args .content)) (a .args .next) (first-inside _ (a .pre)) in
     omega (arith, k .count-messages .ensures .0, i, a .good)
 
 sub-t9 : tie.Need-sub-t9
 sub-t9 c =
     let k = c .before .before in
     let a = k .before .before .before .before in
-    let i = from-inside (now (a .args .content)) (a .args .next) (a .pre) in
+    let i = from-inside (now (a .args .content)) (a .args .next) (first-inside _ (a .pre)) in
     omega (arith, k .count-messages .ensures .1 .0, i)
 
 returns : tie.Need-returns
-unfolding counted
+unfolding plainRecord
 returns c =
     let k = c .before .before in
-    rw (k .count-messages .ensures .0, k .count-messages .ensures .1 .0)
+    let a = k .before .before .before .before in
+    rw (first-counted _ (a .pre), first-dropped _ (a .pre), k .count-messages .ensures .0, k .count-messages .ensures .1 .0)
 
 pub count-others-spec : {M : Type 1} → statement M
 count-others-spec = tie.close (tie.spec count-messages-requires add-t7 sub-t9 returns)

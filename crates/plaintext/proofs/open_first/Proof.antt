@@ -1,11 +1,11 @@
 -- `plaintext::open_first` meets its contract: no head, no body, or the first message is met. Assumes nothing.
-use mathlib.Core.Path.{sym, ap, _∙_}
+use mathlib.Core.Path.{ap}
 use Rattle.refusal.specs.Answers.{refused}
 use Rattle.refusal.proofs.Told.{case}
 use Rattle.message.specs.Messages.{messageSays}
-use Rattle.envelope.specs.Heads.{headSays}
-use Rattle.envelope.proofs.Heads.{head-lies, met-no-head, met-no-body, met-got}
-use Rattle.plaintext.proofs.Opened.{first-refused, first-got}
+use Rattle.envelope.specs.Opening.{headSays}
+use Rattle.envelope.proofs.Heads.{met-no-head, met-no-body, met-got}
+use Rattle.plaintext.specs.Plaintext.{handshakes}
 use borrow.Author.Needs.{needs}
 use Rattle.plaintext.proofs.open_first.Statement.{statement}
 use Rattle.plaintext.proofs.open_first.Tie as tie
@@ -20,10 +20,11 @@ first-refusal-requires : tie.Need-first-refusal-requires
 first-refusal-requires c κs = search needs
 
 returns : tie.Need-returns
+unfolding handshakes
 returns c =
     let h = c .before .before .before .before in
     let e = met-no-head _ _ (case headSays (h .parse-tls-message-head .ensures) (c .before .before .r .given .1)) in
-    ap refused (c .first-refusal .ensures) ∙ sym (first-refused _ _ e)
+    rw e (ap refused (c .first-refusal .ensures))
 
 enum-known-h : tie.Need-enum-known-h
 enum-known-h c = search needs
@@ -48,22 +49,26 @@ enum-known-message c = search needs
 
 count-others-requires : tie.Need-count-others-requires
 count-others-requires c κs =
-    let g = c .before .before .before .before .before .before .before in
-    head-lies _ _ (case headSays (g .before .before .parse-tls-message-head .ensures) (g .h .given .1)) .inside
+    let f = c .before .before .before in
+    let g = f .before .before .before .before in
+    let e = met-got _ _ (case headSays (g .before .before .parse-tls-message-head .ensures) (g .h .given .1)) (case messageSays (rw (f .before .part-of .ensures) at (f .parse-tls-handshake-body .ensures)) (c .before .message .given .1)) in
+    rw e
 
 returns-2 : tie.Need-returns-2
+unfolding handshakes
 returns-2 c =
     let f = c .before .before .before .before .before in
     let g = f .before .before .before .before in
     let e = met-no-body _ _ (case headSays (g .before .before .parse-tls-message-head .ensures) (g .h .given .1)) (case messageSays (rw (f .before .part-of .ensures) at (f .parse-tls-handshake-body .ensures)) (c .before .before .before .r2 .given .1)) in
-    rw (first-refused _ _ e, ← (c .before .inside .ensures)) (ap refused (c .first-refusal2 .ensures))
+    rw (e, ← (c .before .inside .ensures)) (ap refused (c .first-refusal2 .ensures))
 
 returns-3 : tie.Need-returns-3
+unfolding handshakes
 returns-3 c =
     let f = c .before .before .before .before in
     let g = f .before .before .before .before in
     let e = met-got _ _ (case headSays (g .before .before .parse-tls-message-head .ensures) (g .h .given .1)) (case messageSays (rw (f .before .part-of .ensures) at (f .parse-tls-handshake-body .ensures)) (c .before .before .message .given .1)) in
-    rw (first-got _ _ e, c .count-others .ensures)
+    rw (e, c .count-others .ensures)
 
 pub open-first-spec : {M : Type 1} → statement M
 open-first-spec =

@@ -8,7 +8,7 @@ use Rattle.refusal.specs.Answers.{refused}
 use Rattle.list.proofs.Walk.{none-at-all}
 use Rattle.envelope.specs.Opening.{metAt}
 use Rattle.walk.specs.Walks.{messages, pastAll}
-use Rattle.plaintext.specs.Plaintext.{handshakes}
+use Rattle.plaintext.specs.Plaintext.{handshakes, plainRecord}
 use Rattle.walk.proofs.Walking.{past-inside, first-met}
 use borrow.Author.Needs.{needs}
 use Rattle.plaintext.proofs.open_handshake.Statement.{statement}
@@ -36,7 +36,7 @@ sub-t10 c =
     omega (arith, k .count-messages .ensures .1 .0, past-inside s)
 
 returns-2 : tie.Need-returns-2
-unfolding handshakes
+unfolding handshakes plainRecord
 returns-2 c =
     let k = c .before .before .before in
     let s = now (k .before .before .before .before .args .content) in

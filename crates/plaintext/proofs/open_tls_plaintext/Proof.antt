@@ -4,8 +4,7 @@ use borrow.Author.Tests.{eq-eqb, ne-eqb}
 use Rattle.refusal.specs.Answers.{refused}
 use Rattle.refusal.proofs.Told.{case}
 use Rattle.record.specs.Records.{rawSays}
-use Rattle.plaintext.specs.Plaintext.{plaintext, byRecordType, openedFirst}
-use Rattle.plaintext.proofs.Opened.{of-content}
+use Rattle.plaintext.specs.Plaintext.{openedFirst}
 use borrow.Author.Needs.{needs}
 use Rattle.plaintext.proofs.open_tls_plaintext.Statement.{statement}
 use Rattle.plaintext.proofs.open_tls_plaintext.Tie as tie
@@ -17,7 +16,7 @@ enum-known-r : tie.Need-enum-known-r
 enum-known-r c = search needs
 
 returns : tie.Need-returns
-unfolding plaintext byRecordType openedFirst
+unfolding openedFirst
 returns c = rw (case rawSays (c .before .before .before .parse-tls-raw-record .ensures) (c .before .r .given .1))
 
 enum-known-x : tie.Need-enum-known-x
@@ -30,16 +29,16 @@ open-first-requires : tie.Need-open-first-requires
 open-first-requires c κs = search needs
 
 returns-2 : tie.Need-returns-2
-unfolding plaintext byRecordType openedFirst
+unfolding openedFirst
 returns-2 c =
     let g = c .before .before .before .before .before in
-    rw (case rawSays (g .before .before .parse-tls-raw-record .ensures) (g .x .given .1), eq-eqb (g .x .given .0 .0 .hdr .«record_type») 0x16 (c .before .before .if1 .taken), of-content _ (g .x .given .0 .0), ← (c .before .part-of .ensures)) (c .open-first .ensures)
+    rw (case rawSays (g .before .before .parse-tls-raw-record .ensures) (g .x .given .1), eq-eqb (g .x .given .0 .0 .hdr .«record_type») 0x16 (c .before .before .if1 .taken), ← (c .before .part-of .ensures)) (c .open-first .ensures)
 
 other-type-requires : tie.Need-other-type-requires
 other-type-requires c κs = search needs
 
 returns-3 : tie.Need-returns-3
-unfolding plaintext byRecordType openedFirst
+unfolding openedFirst
 returns-3 c =
     let g = c .before .before .before .before in
     rw (case rawSays (g .before .before .parse-tls-raw-record .ensures) (g .x .given .1), ne-eqb (g .x .given .0 .0 .hdr .«record_type») 0x16 (c .before .if1 .left)) (ap refused (c .other-type .ensures))

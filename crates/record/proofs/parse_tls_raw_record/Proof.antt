@@ -9,12 +9,13 @@ use Rattle.refusal.proofs.Told.{case}
 use Rattle.wire.specs.Parts.{partSays}
 use Rattle.wire.specs.Numbers.{numberSays}
 use Rattle.wire.proofs.Numbers.{number-value, below-limit}
-use Rattle.field.specs.Fields.{fixed, counted, ruleOf}
+use Rattle.field.specs.Fields.{fixed, ruleOf}
 use Rattle.field.specs.declared.Kind.the-variants.{Fragment}
-use Rattle.field.proofs.Rules.{number-field, number-field-no, counted-lies}
+use Rattle.field.proofs.Rules.{number-field, number-field-no, counted-lies, unless-none}
+use Rattle.grammar.specs.Grammars.{asView, asNumber}
 use Rattle.grammar.specs.Forms.{reading}
 use Rattle.grammar.proofs.Chain.{So, begin, and, stop, end}
-use Rattle.record.specs.Records.{raw}
+use Rattle.record.specs.Records.{fragment, raw}
 use borrow.Author.Needs.{needs}
 use Rattle.record.proofs.parse_tls_raw_record.Statement.{statement}
 use Rattle.record.proofs.parse_tls_raw_record.Tie as tie
@@ -23,13 +24,13 @@ use Rattle.record.proofs.parse_tls_raw_record.Tie as tie
 abbrev S1 : tie.After-n → List ℕ
 S1 c = now (c .before .before .before .before .args .i)
 
-abbrev at1 : (c : tie.After-n) → So (reading raw (S1 c)) (S1 c) (fixed 2 ∷ counted 2 (ruleOf Fragment) ∷ [])
+abbrev at1 : (c : tie.After-n) → So (reading raw (S1 c)) (S1 c) ((fixed 2, asNumber 2) ∷ (fragment, asView) ∷ [])
 at1 c = and (begin raw (S1 c)) (number-field 1 _ _ (case numberSays (c .before .before .parse-be .ensures .0) (c .n .given .1)))
 
 abbrev S2 : tie.After-n2 → List ℕ
 S2 c = S1 (c .before .before .before .before)
 
-abbrev at2 : (c : tie.After-n2) → So (reading raw (S2 c)) (S2 c) (counted 2 (ruleOf Fragment) ∷ [])
+abbrev at2 : (c : tie.After-n2) → So (reading raw (S2 c)) (S2 c) ((fragment, asView) ∷ [])
 at2 c = and (at1 (c .before .before .before .before)) (number-field 2 _ _ (case numberSays (c .before .before .parse-be2 .ensures .0) (c .n2 .given .1)))
 
 abbrev S3 : tie.After-p → List ℕ
@@ -88,7 +89,7 @@ cast-t23 : tie.Need-cast-t23
 cast-t23 c =
     let g = c .before .before .before .before .before in
     let l = counted-lies 2 (ruleOf Fragment) _ _ (case partSays (g .before .before .length-data .ensures) (g .p .given .1)) in
-    omega (arith, leb-true (g .p .given .0 .0 .view .len) 16640 (l .allowed))
+    omega (arith, leb-true (g .p .given .0 .0 .view .len) 16640 (unless-none _ _ (l .allowed)))
 
 returns-4 : tie.Need-returns-4
 returns-4 c =

@@ -11,8 +11,8 @@ use Rattle.text.proofs.gen_head.Tie as tie
 width-holds-requires : tie.Need-width-holds-requires
 width-holds-requires c κs = search needs
 
-take-or-requires : tie.Need-take-or-requires
-take-or-requires c κs = search needs
+room-for-requires : tie.Need-room-for-requires
+room-for-requires c κs = search needs
 
 enum-known-r : tie.Need-enum-known-r
 enum-known-r c = search needs
@@ -26,8 +26,8 @@ gen-be-requires c κs = search needs
 gen-be-requires-2 : tie.Need-gen-be-requires-2
 gen-be-requires-2 c κs = search needs
 
-refuse-requires : tie.Need-refuse-requires
-refuse-requires c κs = search needs
+unplaced-requires : tie.Need-unplaced-requires
+unplaced-requires c κs = search needs
 
 same-length : tie.Need-same-length
 same-length c = search needs
@@ -36,7 +36,7 @@ returns : tie.Need-returns
 returns c =
     let k = c .before .before .before in
     let w = k .before .before .before in
-    ensured (head-out _ _ _ (sym (w .width-holds .ensures) ∙ k .before .before .if1 .taken) (case partSays (k .take-or .ensures) (c .before .r .given .1)))
+    ensured (head-out _ _ _ (sym (w .width-holds .ensures) ∙ k .before .before .if1 .taken) (case partSays (k .room-for .ensures) (c .before .r .given .1)))
 
 same-length-2 : tie.Need-same-length-2
 same-length-2 c = search needs
@@ -48,23 +48,23 @@ returns-2 c =
     let p = a .before .before .before in
     let k = p .before .before in
     let w = k .before .before .before in
-    ensured (head-in _ _ _ (sym (w .width-holds .ensures) ∙ k .before .before .if1 .taken) _ _ (omega arith) (case partSays (k .take-or .ensures) (p .p .given .1)) (a .gen-be .ensures .1) (b .gen-be2 .ensures .1))
+    ensured (head-in _ _ _ (sym (w .width-holds .ensures) ∙ k .before .before .if1 .taken) _ _ (omega arith) (case partSays (k .room-for .ensures) (p .p .given .1)) (a .gen-be .ensures .1) (b .gen-be2 .ensures .1))
 
 returns-3 : tie.Need-returns-3
 returns-3 c =
-    ensured (head-not _ _ _ (sym (c .before .before .width-holds .ensures) ∙ c .before .if1 .left) (c .refuse .ensures))
+    ensured (head-not _ _ _ (sym (c .before .before .width-holds .ensures) ∙ c .before .if1 .left) (c .unplaced .ensures))
 
 pub gen-head-spec : {M : Type 1} → statement M
 gen-head-spec =
     tie.close
     (tie.spec
     width-holds-requires
-    take-or-requires
+    room-for-requires
     enum-known-r
     enum-known-p
     gen-be-requires
     gen-be-requires-2
-    refuse-requires
+    unplaced-requires
     same-length
     returns
     same-length-2

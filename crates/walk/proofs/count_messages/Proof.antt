@@ -7,7 +7,7 @@ use denote.Ref.{now}
 use borrow.Author.Needs.{needs}
 use Rattle.refusal.proofs.Told.{case}
 use Rattle.list.proofs.Walk.{rest-on, rest-end}
-use Rattle.envelope.specs.Heads.{headSays}
+use Rattle.envelope.specs.Opening.{headSays}
 use Rattle.walk.specs.Walks.{messagesFrom, pastAll}
 use Rattle.walk.proofs.Walking.{left, by-messages, all-from, head-met, head-not-met}
 use Rattle.walk.proofs.count_messages.Statement.{statement}

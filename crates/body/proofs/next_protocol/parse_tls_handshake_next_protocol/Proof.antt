@@ -6,9 +6,10 @@ use denote.Ref.{now}
 use Rattle.refusal.proofs.Told.{case}
 use Rattle.wire.specs.Parts.{partSays}
 use Rattle.field.specs.Fields.{sized}
+use Rattle.grammar.specs.Grammars.{asView}
 use Rattle.grammar.specs.Forms.{reading}
 use Rattle.grammar.proofs.Chain.{So, begin, and, stop, end}
-use Rattle.body.specs.NextProtocol.{nextProtocol}
+use Rattle.body.specs.Body.{nextProtocol}
 use borrow.Author.Needs.{needs}
 use Rattle.body.proofs.next_protocol.parse_tls_handshake_next_protocol.Statement.{statement}
 use Rattle.body.proofs.next_protocol.parse_tls_handshake_next_protocol.Tie as tie
@@ -17,7 +18,7 @@ use Rattle.body.proofs.next_protocol.parse_tls_handshake_next_protocol.
 abbrev S1 : tie.After-p → List ℕ
 S1 c = now (c .before .before .before .before .args .i)
 
-abbrev at1 : (c : tie.After-p) → So (reading nextProtocol (S1 c)) (S1 c) (sized 1 ∷ [])
+abbrev at1 : (c : tie.After-p) → So (reading nextProtocol (S1 c)) (S1 c) ((sized 1, asView) ∷ [])
 at1 c = and (begin nextProtocol (S1 c)) (case partSays (c .before .before .length-data .ensures) (c .p .given .1))
 
 abbrev S2 : tie.After-p2 → List ℕ

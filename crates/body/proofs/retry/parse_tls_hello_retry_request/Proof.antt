@@ -11,7 +11,7 @@ use Rattle.field.proofs.Rules.{number-field, number-field-no}
 use Rattle.grammar.specs.Hellos.{cipher}
 use Rattle.grammar.specs.Forms.{reading}
 use Rattle.grammar.proofs.Chain.{So, begin, and, stop, end}
-use Rattle.body.specs.Retry.{retry}
+use Rattle.body.specs.Body.{retry}
 use borrow.Author.Needs.{needs}
 use Rattle.body.proofs.retry.parse_tls_hello_retry_request.Statement.{statement}
 use Rattle.body.proofs.retry.parse_tls_hello_retry_request.Tie as tie

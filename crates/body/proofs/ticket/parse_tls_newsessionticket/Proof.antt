@@ -1,6 +1,6 @@
 -- `body::ticket::parse_tls_newsessionticket` meets its contract, by the length given. Assumes nothing.
 use Prim.Native.Nat.{ℕ}
-use mathlib.Core.Path.{_≡_, sym, _∙_}
+use mathlib.Core.Path.{_≡_, sym}
 use mathlib.Core.List.{List}
 use native.Mathlib.Omega.{arith}
 use denote.Ref.{now}
@@ -10,7 +10,7 @@ use Rattle.wire.specs.Parts.{partSays}
 use Rattle.wire.specs.Numbers.{numberSays}
 use Rattle.wire.proofs.Numbers.{number-is, number-short, below-limit}
 use Rattle.field.specs.Fields.{fixed, step}
-use Rattle.body.proofs.Tickets.{under-4, past-end, by-form, there, form-whole}
+use Rattle.body.proofs.Tickets.{under-4, past-end, whole, there}
 use borrow.Author.Needs.{needs}
 use Rattle.body.proofs.ticket.parse_tls_newsessionticket.Statement.{statement}
 use Rattle.body.proofs.ticket.parse_tls_newsessionticket.Tie as tie
@@ -71,7 +71,7 @@ returns-4 c =
     let h = f .before .before .before .if1 .left in
     let b = there _ _ (body f) in
     let n = number-is 4 _ _ (case numberSays (c .before .before .before .before .parse-be .ensures .0) (c .before .before .n .given .1)) in
-    rw (n .is, b .0) (sym (by-form _ _ h (body f) ∙ form-whole _ _ h (b .1)))
+    rw (n .is, b .0) (sym (whole _ _ h (b .1)))
 
 pub parse-tls-newsessionticket-spec : {M : Type 1} → statement M
 parse-tls-newsessionticket-spec =

@@ -3,7 +3,7 @@ use mathlib.Core.Path.{sym}
 use Rattle.refusal.proofs.Told.{case}
 use Rattle.wire.specs.Parts.{partSays}
 use Rattle.grammar.proofs.Chain.{begin, and, stop, end}
-use Rattle.certs.specs.Certificate.{certificate}
+use Rattle.certs.specs.Certs.{certificate}
 use borrow.Author.Needs.{needs}
 use Rattle.certs.proofs.certificate.parse_tls_certificate.Statement.{statement}
 use Rattle.certs.proofs.certificate.parse_tls_certificate.Tie as tie

@@ -1,14 +1,16 @@
 -- `certs::request::parse_certrequest_full` meets its contract, field by field. Assumes nothing.
 use Prim.Native.Nat.{ℕ}
 use mathlib.Core.Path.{sym}
+use mathlib.Core.Bool.{true}
 use mathlib.Core.List.{List, [], _∷_}
 use denote.Ref.{now}
 use Rattle.refusal.proofs.Told.{case}
 use Rattle.wire.specs.Parts.{partSays}
 use Rattle.field.specs.Fields.{sized}
+use Rattle.grammar.specs.Grammars.{asView, asOpt}
 use Rattle.grammar.specs.Forms.{reading}
 use Rattle.grammar.proofs.Chain.{So, begin, and, stop, end}
-use Rattle.certs.specs.Request.{long}
+use Rattle.certs.specs.Certs.{request}
 use borrow.Author.Needs.{needs}
 use Rattle.certs.proofs.request.parse_certrequest_full.Statement.{statement}
 use Rattle.certs.proofs.request.parse_certrequest_full.Tie as tie
@@ -17,19 +19,19 @@ use Rattle.certs.proofs.request.parse_certrequest_full.Tie as tie
 abbrev S1 : tie.After-p → List ℕ
 S1 c = now (c .before .before .before .before .args .i)
 
-abbrev at1 : (c : tie.After-p) → So (reading long (S1 c)) (S1 c) (sized 2 ∷ sized 2 ∷ [])
-at1 c = and (begin long (S1 c)) (case partSays (c .before .before .length-data .ensures) (c .p .given .1))
+abbrev at1 : (c : tie.After-p) → So (reading (request true) (S1 c)) (S1 c) ((sized 2, asOpt true) ∷ (sized 2, asView) ∷ [])
+at1 c = and (begin (request true) (S1 c)) (case partSays (c .before .before .length-data .ensures) (c .p .given .1))
 
 abbrev S2 : tie.After-p2 → List ℕ
 S2 c = S1 (c .before .before .before .before)
 
-abbrev at2 : (c : tie.After-p2) → So (reading long (S2 c)) (S2 c) (sized 2 ∷ [])
+abbrev at2 : (c : tie.After-p2) → So (reading (request true) (S2 c)) (S2 c) ((sized 2, asView) ∷ [])
 at2 c = and (at1 (c .before .before .before .before)) (case partSays (c .before .before .length-data2 .ensures) (c .p2 .given .1))
 
 abbrev S3 : tie.After-p3 → List ℕ
 S3 c = S2 (c .before .before .before .before)
 
-abbrev at3 : (c : tie.After-p3) → So (reading long (S3 c)) (S3 c) []
+abbrev at3 : (c : tie.After-p3) → So (reading (request true) (S3 c)) (S3 c) []
 at3 c = and (at2 (c .before .before .before .before)) (case partSays (c .before .before .length-data3 .ensures) (c .p3 .given .1))
 
 length-data-requires : tie.Need-length-data-requires
@@ -39,7 +41,7 @@ enum-known-r : tie.Need-enum-known-r
 enum-known-r c = search needs
 
 returns : tie.Need-returns
-returns c = sym (stop (begin long _) (case partSays (c .before .before .before .length-data .ensures) (c .before .r .given .1)))
+returns c = sym (stop (begin (request true) _) (case partSays (c .before .before .before .length-data .ensures) (c .before .r .given .1)))
 
 enum-known-p : tie.Need-enum-known-p
 enum-known-p c = search needs

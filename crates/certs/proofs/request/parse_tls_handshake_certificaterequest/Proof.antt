@@ -1,7 +1,7 @@
 -- `certs::request::parse_tls_handshake_certificaterequest` meets its contract: the long form, else the short one, else Complete. Assumes
 -- nothing.
 use Rattle.refusal.proofs.Told.{case}
-use Rattle.certs.specs.Request.{certificateRequest, requestSays}
+use Rattle.certs.specs.Certs.{certificateRequest, requestSays}
 use borrow.Author.Needs.{needs}
 use Rattle.certs.proofs.request.parse_tls_handshake_certificaterequest.Statement.{statement}
 use Rattle.certs.proofs.request.parse_tls_handshake_certificaterequest.Tie as tie

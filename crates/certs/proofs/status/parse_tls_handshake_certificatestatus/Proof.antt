@@ -10,9 +10,10 @@ use Rattle.wire.specs.Numbers.{numberSays}
 use Rattle.wire.proofs.Numbers.{number-value, below-limit}
 use Rattle.field.proofs.Rules.{number-field, number-field-no}
 use Rattle.field.specs.Fields.{sized}
+use Rattle.grammar.specs.Grammars.{asView}
 use Rattle.grammar.specs.Forms.{reading}
 use Rattle.grammar.proofs.Chain.{So, begin, and, stop, end}
-use Rattle.certs.specs.Status.{status}
+use Rattle.certs.specs.Certs.{status}
 use borrow.Author.Needs.{needs}
 use Rattle.certs.proofs.status.parse_tls_handshake_certificatestatus.Statement.{statement}
 use Rattle.certs.proofs.status.parse_tls_handshake_certificatestatus.Tie as tie
@@ -21,7 +22,7 @@ use Rattle.certs.proofs.status.parse_tls_handshake_certificatestatus.Ti
 abbrev S1 : tie.After-n → List ℕ
 S1 c = now (c .before .before .before .before .args .i)
 
-abbrev at1 : (c : tie.After-n) → So (reading status (S1 c)) (S1 c) (sized 3 ∷ [])
+abbrev at1 : (c : tie.After-n) → So (reading status (S1 c)) (S1 c) ((sized 3, asView) ∷ [])
 at1 c = and (begin status (S1 c)) (number-field 1 _ _ (case numberSays (c .before .before .parse-be .ensures .0) (c .n .given .1)))
 
 abbrev S2 : tie.After-p → List ℕ

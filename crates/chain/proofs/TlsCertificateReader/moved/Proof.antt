@@ -33,7 +33,7 @@ use denote.Triple.Statement.{Triple}
 use denote.Triple.Entry.{onEntry}
 use denote.Triple.Table.{cited}
 use denote.Triple.Walked.{walkOf}
-use Rattle.chain.specs.Chain.{pastCert}
+use Rattle.chain.specs.Chain.{certOf, pastOr}
 use Rattle.chain.specs.declared.TlsCertificateReader.{TlsCertificateReader}
 use Rattle.chain.proofs.Apart.{B, D, L, fields, Whole, Parted, reader-bound, parts-bound, reader-stays, reader-spelt, reader-told, reader-goes, reader-twice, apart, has-type}
 use Rattle.chain.proofs.Calls.{Met, calls, ends, holds, by-walk}
@@ -57,7 +57,7 @@ module _ {M : Type 1} (𝓤 : URA M) (H : Heap 𝓤) (A : Atoms 𝓤) (W : Given
   abbrev Post : Val → SProp 𝓤
   Post = walkOf 𝓤 H A moved.ended reader-stays (moved.clauses 𝓤 H A mem run) .post (reader-bound κ q d mach)
 
-  exits : (r : ℕ) → r ≡ pastCert (now (d .list)) (d .at) → r < 2 ^ 64 → ent 𝓤 (⋆ 𝓤 H A (raw (toks 𝓤 A 1 (κ, tt) (q, tt)) ∷ ‵ (Whole κ d) ∷ [])) (Post (T′.lowered (d′ r)))
+  exits : (r : ℕ) → r ≡ pastOr (d .at) (certOf d) → r < 2 ^ 64 → ent 𝓤 (⋆ 𝓤 H A (raw (toks 𝓤 A 1 (κ, tt) (q, tt)) ∷ ‵ (Whole κ d) ∷ [])) (Post (T′.lowered (d′ r)))
   exits r e fits =
       qed W (raw (toks 𝓤 A 1 (κ, tt) (q, tt)) ∷ ‵ (Whole κ d) ∷ []) ∵
       move ! (1 ∷ []) $ use1 W (‵ (Whole κ d) ⊛ ‵ (B (κ, tt) .own d (mach ∷ []))) (reader-twice 𝓤 H A W κ d) $ split ! $ owned ! usize (Is usize) (uint-makes 𝓤 H A W w64) r _ (refl, fits) $
@@ -72,7 +72,7 @@ module _ {M : Type 1} (𝓤 : URA M) (H : Heap 𝓤) (A : Atoms 𝓤) (W : Given
         assigns ! (of-opd ! (load ! (from ! (fld ! refl (stop !))) (look-in ! 8 (sub ! 0 refl (whole !))))) (from ! (stop !)) (init ! 4 refl (tt, wt .1 .0)) $
         assigns ! (of-opd ! (load ! (from ! (fld ! refl (stop !))) (look-in ! 8 (sub ! 1 refl (whole !))))) (from ! (stop !)) (init ! 2 refl (tt, wt .1 .1 .0)) $
         move ! (13 ∷ []) $ use1 W (‵ (Parted κ d) ⊛ ‵ (Whole κ d)) (apart 𝓤 H A W κ d) $ split ! $ move ! (14 ∷ []) $
-        calls ! fm past-cert.ended (past-cert.clauses 𝓤 H A mem run) past-cert-met (parts-bound κ q d) (λ (r : ℕ). r ≡ pastCert (now (d .list)) (d .at)) (id⊢ 𝓤 _) (λ r ws. id⊢ 𝓤 _) (and-then ! (load ! (from ! (stop !)) (look ! 6 refl)) (and-then ! (load ! (from ! (stop !)) (look ! 4 refl)) (no-more !))) (λ u r e is.
+        calls ! fm past-cert.ended (past-cert.clauses 𝓤 H A mem run) past-cert-met (parts-bound κ q d) (λ (r : ℕ). r ≡ pastOr (d .at) (certOf d)) (id⊢ 𝓤 _) (λ r ws. id⊢ 𝓤 _) (and-then ! (load ! (from ! (stop !)) (look ! 6 refl)) (and-then ! (load ! (from ! (stop !)) (look ! 4 refl)) (no-more !))) (λ u r e is.
         -- [the result; the token; what the reader owns; _5; …; _4; …; _3; …; _2; …; _1; …; room for _0; …]
         land ! (from ! (stop !)) (init ! 9 refl (uint-lawful 𝓤 H A W w64 .typed r _ is .0)) $ rewrite ! 9 (λ (w : Val). ‵ (fat fullShare (tyInt w64) l₂ 0 w)) (ap only (is .0)) refl $
         assigns ! (of-opd ! (load ! (from ! (fld ! refl (stop !))) (look-in ! 11 (sub ! 0 refl (whole !))))) (from ! (stop !)) (init ! 3 refl (tt, wt .1 .0)) $

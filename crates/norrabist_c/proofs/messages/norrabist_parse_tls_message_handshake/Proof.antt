@@ -2,7 +2,7 @@
 -- nothing.
 use Rattle.refusal.proofs.Told.{case}
 use Rattle.message.specs.Messages.{messageSays}
-use Rattle.envelope.specs.Heads.{headSays}
+use Rattle.envelope.specs.Opening.{headSays}
 use Rattle.envelope.proofs.Heads.{met-no-head}
 use Rattle.norrabist_c.proofs.Exports.{none-told, all-told, front-not, front-met}
 use borrow.Author.Needs.{needs}

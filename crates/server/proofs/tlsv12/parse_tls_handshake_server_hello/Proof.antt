@@ -13,23 +13,23 @@ use Rattle.wire.specs.declared.number.Number.{Number}
 use Rattle.wire.specs.declared.number.NumberAnswer.{NumberAnswer}
 use Rattle.wire.specs.declared.number.NumberAnswer.the-variants.{Got}
 use Rattle.grammar.specs.Demand3.{ByVersion}
-use Rattle.grammar.specs.Forms.{Form, reading}
-use Rattle.grammar.specs.Versions.{byVersion}
+use Rattle.grammar.specs.Forms.{Form, reading, byVersion}
+use Rattle.wire.specs.Parts.{lookup}
 use Rattle.server.specs.Server.{server, serverVersions}
-use Rattle.server.proofs.Whole.{demand3}
+use Rattle.server.proofs.Whole.{demand3-by-version}
 use Rattle.server.specs.declared.tlsv12.TlsServerHelloContents.{TlsServerHelloContents}
 use borrow.Author.Needs.{needs}
 use Rattle.server.proofs.tlsv12.parse_tls_handshake_server_hello.Statement.{statement}
 use Rattle.server.proofs.tlsv12.parse_tls_handshake_server_hello.Tie as tie
 
 -- what is read by the form that the version announces is the answer
-read-by : (s : List ℕ) {a : NumberAnswer} {n : Number} {x : Answer TlsServerHelloContents} (k : Form TlsServerHelloContents) → numberSays a ≡ numberAt 2 s 0 → a ≡ Got n → serverVersions (n .value) ≡ some k → x ≡ reading k s → x ≡ byVersion serverVersions s
+read-by : (s : List ℕ) {a : NumberAnswer} {n : Number} {x : Answer TlsServerHelloContents} (k : Form TlsServerHelloContents) → numberSays a ≡ numberAt 2 s 0 → a ≡ Got n → lookup (n .value) serverVersions ≡ some k → x ≡ reading k s → x ≡ byVersion serverVersions s
 unfolding byVersion
 read-by s k e g l r = rw (case numberSays e g, l) r
 
 -- what was lent is bytes, a fact of the slice's type, so that demand 3 holds of it
 announced : (c : tie.After-shared-slice-known) → ByVersion serverVersions (now (c .before .args .i))
-announced c = demand3 _ (λ n. c .shared-slice-known .given n .fits) .byItsVersion
+announced c = demand3-by-version _ (λ n. c .shared-slice-known .given n .fits)
 
 parse-be-requires : tie.Need-parse-be-requires
 parse-be-requires c κs = search needs

@@ -16,7 +16,7 @@ use Rattle.grammar.proofs.Chain.{So, begin, and, stop, stop-all, end}
 use Rattle.hello.specs.Start.{startSays}
 use Rattle.server.specs.Server.{server}
 use Rattle.server.proofs.Whole.{demand3}
-use Rattle.hello.proofs.Begun.{startFields, Begun, begun, not-begun, after}
+use Rattle.hello.proofs.Begun.{startRows, Begun, begun, not-begun, after}
 use borrow.Author.Needs.{needs}
 use Rattle.server.proofs.tlsv12.parse_tls_server_hello_tlsv12.Statement.{statement}
 use Rattle.server.proofs.tlsv12.parse_tls_server_hello_tlsv12.Tie as tie
@@ -54,7 +54,7 @@ at3 c = and (at2 (c .before .before .before .before)) (number-field 1 _ _ (case 
 
 -- what was lent is bytes, a fact of the slice's type, so that demand 3 holds of it
 split : (c : tie.After-shared-slice-known) → BySplit (server (c .before .args .has-ext)) (now (c .before .args .i))
-split c = demand3 _ (λ n. c .shared-slice-known .given n .fits) .serverHello (c .before .args .has-ext)
+split c = demand3 (c .before .args .has-ext) _ (λ n. c .shared-slice-known .given n .fits)
 
 split1 : (c : tie.After-s) → BySplit (server (E1 c)) (S1 c)
 split1 c = split (c .before .before .before)
@@ -74,7 +74,7 @@ enum-known-r c = search needs
 returns : tie.Need-returns
 returns c =
     let a = c .before .before .before .before .before .args in (
-      sym (stop-all startFields (cipher ∷ compression ∷ []) (begin (server (a .has-ext)) (now (a .i))) (not-begun _ (case startSays (c .before .before .before .parse-start .ensures) (c .before .r .given .1)))),
+      sym (stop-all startRows (cipher ∷ compression ∷ []) (begin (server (a .has-ext)) (now (a .i))) (not-begun _ (case startSays (c .before .before .before .parse-start .ensures) (c .before .r .given .1)))),
       split (c .before .before .before .before),
     )
 

@@ -13,8 +13,8 @@ use Rattle.grammar.specs.Hellos.{random, cipher}
 use Rattle.grammar.specs.Demand3.{BySplit}
 use Rattle.grammar.specs.Forms.{reading}
 use Rattle.grammar.proofs.Chain.{So, begin, and, stop, end}
-use Rattle.server.specs.Draft18.{draft18}
-use Rattle.server.proofs.Whole.{demand3}
+use Rattle.server.specs.Server.{draft18}
+use Rattle.server.proofs.Whole.{demand3-draft18}
 use borrow.Author.Needs.{needs}
 use Rattle.server.proofs.tlsv13draft18.parse_tls_server_hello_tlsv13draft18.Statement.{statement}
 use Rattle.server.proofs.tlsv13draft18.parse_tls_server_hello_tlsv13draft18.Tie as tie
@@ -40,7 +40,7 @@ at3 c = and (at2 (c .before .before .before .before)) (number-field 2 _ _ (case 
 
 -- what was lent is bytes, a fact of the slice's type, so that demand 3 holds of it
 split : (c : tie.After-shared-slice-known) → BySplit draft18 (now (c .before .args .i))
-split c = demand3 _ (λ n. c .shared-slice-known .given n .fits) .draft18Hello
+split c = demand3-draft18 _ (λ n. c .shared-slice-known .given n .fits)
 
 split1 : (c : tie.After-n) → BySplit draft18 (S1 c)
 split1 c = split (c .before .before .before)

@@ -3,7 +3,7 @@ use mathlib.Core.Path.{ap, sym, _∙_}
 use Rattle.refusal.specs.Answers.{refused}
 use Rattle.refusal.proofs.Told.{case}
 use Rattle.wire.specs.Parts.{partSays}
-use Rattle.wire.proofs.Parts.{fits}
+use Rattle.wire.proofs.Parts.{room-fits}
 use Rattle.wire.proofs.Puts.{number-over, number-out, number-put}
 use borrow.Author.Needs.{needs}
 use Rattle.wire.proofs.number.gen_be.Statement.{statement}
@@ -15,17 +15,17 @@ width-bytes-requires c κs = search needs
 limit-requires : tie.Need-limit-requires
 limit-requires c κs = search needs
 
-refuse-requires : tie.Need-refuse-requires
-refuse-requires c κs = search needs
+unplaced-requires : tie.Need-unplaced-requires
+unplaced-requires c κs = search needs
 
 returns : tie.Need-returns
 returns c =
     let k = c .before .before in
     let o = number-over _ _ _ _ (rw (k .limit .ensures) at (c .before .if1 .taken)) in
-    (ap refused (c .refuse .ensures) ∙ sym (o .says), sym (o .leaves))
+    (ap refused (c .unplaced .ensures) ∙ sym (o .says), sym (o .leaves))
 
-take-or-requires : tie.Need-take-or-requires
-take-or-requires c κs = search needs
+room-for-requires : tie.Need-room-for-requires
+room-for-requires c κs = search needs
 
 enum-known-r : tie.Need-enum-known-r
 enum-known-r c = search needs
@@ -35,7 +35,7 @@ enum-known-p c = search needs
 
 put-number-requires : tie.Need-put-number-requires
 put-number-requires c κs =
-    fits _ _ _ _ (case partSays (c .before .before .before .before .take-or .ensures) (c .before .before .p .given .1)) .inside
+    room-fits _ _ _ (case partSays (c .before .before .before .before .room-for .ensures) (c .before .before .p .given .1)) .inside
 
 same-length : tie.Need-same-length
 same-length c = search needs
@@ -44,7 +44,7 @@ returns-2 : tie.Need-returns-2
 returns-2 c =
     let k = c .before .before .before in
     let l = k .before .before .before in
-    let e = case partSays (k .take-or .ensures) (c .before .r .given .1) in
+    let e = case partSays (k .room-for .ensures) (c .before .r .given .1) in
     let o = number-out _ _ _ _ (rw (l .limit .ensures) at (k .before .before .if1 .left)) (rw (l .before .width-bytes .ensures) at e) in
     (sym (o .says), sym (o .leaves))
 
@@ -56,7 +56,7 @@ returns-3 c =
     let p = c .before .before in
     let k = p .before .before .before .before .before in
     let l = k .before .before .before in
-    let e = case partSays (k .take-or .ensures) (p .before .before .before .p .given .1) in
+    let e = case partSays (k .room-for .ensures) (p .before .before .before .p .given .1) in
     let o = number-put _ _ _ _ (rw (l .limit .ensures) at (k .before .before .if1 .left)) (rw (l .before .width-bytes .ensures) at e) in
     (sym (o .says), rw (l .before .width-bytes .ensures) at (p .put-number .ensures) ∙ sym (o .leaves))
 
@@ -66,9 +66,9 @@ gen-be-spec =
     (tie.spec
     width-bytes-requires
     limit-requires
-    refuse-requires
+    unplaced-requires
     returns
-    take-or-requires
+    room-for-requires
     enum-known-r
     enum-known-p
     put-number-requires
