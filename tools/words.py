@@ -12,7 +12,7 @@ THEOREMS = ("readings", "readcases", "wayback", "writecases", "claims")
 NAMED = re.compile(r"^(?:(?:abbrev|unfoldable|opaque|pub)\s+)*(?:(?:record|data)\s+)?([^\s:(){}]+)")
 TAKEN = re.compile(r"^(pub )?use (\S+?)\.\{([^}]*)\}$")
 LENT = re.compile(r"^ghost use (\S+?)\.\{([^}]*)\};$", re.M)
-FILE = re.compile(r"Rattle·(\w+?)(?:·specs)?\.specs\.([A-Z]\w*)$")
+FILE = re.compile(r"Rattle·(\w+?)(?:·specs)?\.specs(?:\.([A-Z]\w*))?$")
 WORD = re.compile(r"[^\s(){},;.⌜⌝\[\]]+")
 FIELD = re.compile(r"(?<=[\s(])\.\S+")
 
@@ -47,9 +47,10 @@ class File:
                     self.owner[case.split()[0]] = known
 
     def take(self, path, names, handed):
+        """Where a word stands that it takes: the file, or the folder of a crate whose Lib passes it on."""
         file = FILE.match(path)
-        for name in (name.strip() for name in names.split(",")):
-            self.taken[name] = f"{file.group(1)}/specs/{file.group(2)}.antt" if file else None
+        for name in (name.strip().rpartition(".")[2] for name in names.split(",")):
+            self.taken[name] = f"{file.group(1)}/specs/" + (f"{file.group(2)}.antt" if file.group(2) else "") if file else None
             if handed:
                 self.handed.add(name)
 
@@ -65,13 +66,21 @@ def files(root):
     return found
 
 
+def standing(known, file, word):
+    """The file that a file takes a word from: of a crate whose Lib passes it on the one that has it."""
+    where = file.taken.get(word) or ""
+    if not where.endswith("/"):
+        return known.get(where)
+    return next((other for other in known.values() if other.path.startswith(where) and word in {*other.defined, *other.owner, *other.handed}), None)
+
+
 def resolve(known, file, word):
     """The definition that a word of a file means, as the file's path and the name."""
     if word in file.defined:
         return file.path, word
     if word in file.owner:
         return file.path, file.owner[word]
-    other = known.get(file.taken.get(word) or "")
+    other = standing(known, file, word)
     return resolve(known, other, word) if other else None
 
 

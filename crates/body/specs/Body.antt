@@ -1,23 +1,9 @@
 -- The bodies of a HelloRetryRequest, a NewSessionTicket and a NextProtocol: document 01, "The other handshake bodies".
-use Rattle.refusal.specs.Words.{ℕ, _+_, _-_, _<_, _≤_, _≡_, List, [], _∷_, _++_, none, some, ltb, length, drop}
-use Rattle.refusal.specs.Answers.{Answer, accepted, refused, then}
-use Rattle.refusal.specs.Refusals.{refusal}
-use Rattle.refusal.specs.declared.Reason.the-variants.{Incomplete, Verify}
-use Rattle.refusal.specs.declared.Refusal.{Refusal}
-use Rattle.wire.specs.Numbers.{be, bytesOf}
-use Rattle.wire.specs.Parts.{pick, partOf}
-use Rattle.wire.specs.declared.view.OptView.the-variants.{Absent}
-use Rattle.field.specs.Fields.{fixed, sized, step}
-use Rattle.field.specs.Standing.{TooFew}
-use Rattle.grammar.specs.Grammars.{asView}
-use Rattle.grammar.specs.Hellos.{version, cipher, extensions}
-use Rattle.grammar.specs.Forms.{Form}
-use Rattle.body.specs.declared.retry.TlsHelloRetryRequestContents.{TlsHelloRetryRequestContents}
-use Rattle.body.specs.declared.retry.HelloRetryRequestAnswer.{HelloRetryRequestAnswer}
-use Rattle.body.specs.declared.ticket.TlsNewSessionTicketContent.{TlsNewSessionTicketContent}
-use Rattle.body.specs.declared.ticket.NewSessionTicketAnswer.{NewSessionTicketAnswer}
-use Rattle.body.specs.declared.next_protocol.TlsNextProtocolContent.{TlsNextProtocolContent}
-use Rattle.body.specs.declared.next_protocol.NextProtocolAnswer.{NextProtocolAnswer}
+use Rattle.refusal.specs.{ℕ, _+_, _-_, _<_, _≤_, _≡_, List, [], _∷_, _++_, none, some, ltb, length, drop, refusal, Answer, accepted, refused, Incomplete, Verify, Refusal, giving}
+use Rattle.wire.specs.{pick, partOf, be, bytesOf, Absent}
+use Rattle.field.specs.{fixed, sized, step, TooFew}
+use Rattle.grammar.specs.{asView, version, cipher, extensions, Form}
+use Rattle.body.specs.declared.{next_protocol.NextProtocolAnswer.NextProtocolAnswer, next_protocol.TlsNextProtocolContent.TlsNextProtocolContent, retry.HelloRetryRequestAnswer.HelloRetryRequestAnswer, retry.TlsHelloRetryRequestContents.TlsHelloRetryRequestContents, ticket.NewSessionTicketAnswer.NewSessionTicketAnswer, ticket.TlsNewSessionTicketContent.TlsNewSessionTicketContent}
 
 -- "HelloRetryRequest: version 2, cipher 2, extensions as above"; draft-ietf-tls-tls13-18, 4.1.4
 abbrev pub retry : Form TlsHelloRetryRequestContents
@@ -44,7 +30,7 @@ nextProtocol = record {
 unfoldable pub sessionTicket : ℕ → List ℕ → Answer TlsNewSessionTicketContent
 sessionTicket n s =
     pick (ltb n 4) (refused (refusal Verify 0 0))
-    (then (step (fixed n) s 0) (λ whole. accepted (record { «ticket_lifetime_hint» = be 4 s 0; ticket = record { start = 4; len = n - 4 }; tail = n })))
+    (giving (λ whole. record { «ticket_lifetime_hint» = be 4 s 0; ticket = record { start = 4; len = n - 4 }; tail = n }) (step (fixed n) s 0))
 
 -- the body is a lifetime, a ticket, which are n bytes together, and a tail
 abbrev pub TicketSplit : ℕ → List ℕ → List ℕ → List ℕ → List ℕ → Type 0
@@ -60,7 +46,6 @@ pub record OfTicket (n : ℕ) (body : List ℕ) : Type 0 where
   -- the split is the only one
   pub only : (l m t u x y : List ℕ) → TicketSplit n body l t x → TicketSplit n body m u y → (l ≡ m) × (t ≡ u) × (x ≡ y)
 
--- each as an `Answer`, which has the paper's number and the values
 abbrev pub retrySays : HelloRetryRequestAnswer → Answer TlsHelloRetryRequestContents
 retrySays (HelloRetryRequestAnswer.Refused r) = refused r
 retrySays (HelloRetryRequestAnswer.Got c) = accepted c

@@ -1,33 +1,31 @@
--- Joined records: the record at a place, all of them from the front on, and places counted from there.
-use Rattle.refusal.specs.Words.{ℕ, _+_, List, foldl, foldr, length, drop, eqb, leb}
-use Rattle.refusal.specs.Answers.{Answer, accepted, then}
-use Rattle.wire.specs.Parts.{pick, partOf}
-use Rattle.wire.specs.declared.view.View.{View}
-use Rattle.list.specs.Items.{itemsFrom}
-use Rattle.grammar.specs.Forms.{reading}
-use Rattle.record.specs.Records.{raw}
-use Rattle.record.specs.declared.TlsRawRecord.{TlsRawRecord}
-use Rattle.walk.specs.Walks.{messages}
+-- Joined records: the record at a place, all of them from the front on, and places counted from there. What the program `look` counts by;
+-- document 01 asks for no such reader, its records are those of `record/specs/Records.antt`.
+use Rattle.refusal.specs.{ℕ, _+_, List, foldl, foldr, length, drop, eqb, Answer, giving}
+use Rattle.wire.specs.{pick, partOf, View, liesIn}
+use Rattle.grammar.specs.{reading}
+use Rattle.list.specs.{itemsFrom}
+use Rattle.walk.specs.{messages}
+use Rattle.record.specs.{raw, TlsRawRecord}
 use Rattle.capture.specs.declared.RecordTally.{RecordTally}
 
 -- a view of the part that an outer view names, as a view of the whole: empty where it lies outside that part
 unfoldable pub viewIn : List ℕ → View → View → View
 viewIn s outer inner =
-    pick (leb (inner .start + inner .len) (length (partOf s outer)))
+    pick (liesIn (partOf s outer) inner)
     (record { start = outer .start + inner .start; len = inner .len })
     (record { start = 0; len = 0 })
 
 -- the record that begins at a place
 unfoldable pub recordFrom : List ℕ → ℕ → Answer TlsRawRecord
 recordFrom s at =
-    then (reading raw (drop at s)) (λ r.
-    accepted (record { hdr = r .hdr; «data» = record { start = at + r .«data» .start; len = r .«data» .len }; next = at + r .next }))
+    giving (λ r. record { hdr = r .hdr; «data» = record { start = at + r .«data» .start; len = r .«data» .len }; next = at + r .next })
+    (reading raw (drop at s))
 
 -- all of them, until one is refused: each takes five bytes at least
 abbrev pub records : List ℕ → List TlsRawRecord
 records s = itemsFrom (length s) (recordFrom s) (λ r. r .next) 0
 
--- how many messages a record holds: those of 0x16 are opened
+-- how many messages a record holds: one of another type than 0x16 is not opened and holds none
 unfoldable pub messagesIn : List ℕ → TlsRawRecord → ℕ
 messagesIn s r = pick (eqb (r .hdr .«record_type») 0x16) (length (messages (partOf s (r .«data»)))) 0
 

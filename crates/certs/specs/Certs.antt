@@ -1,23 +1,11 @@
 -- The bodies that speak of certificates, Certificate, CertificateRequest and CertificateStatus: document 01, "The other handshake bodies".
-use Rattle.refusal.specs.Words.{ℕ, _≡_, Bool, true, false, List, [], _∷_, none}
-use Rattle.refusal.specs.Answers.{Answer, accepted, refused, orElse}
-use Rattle.refusal.specs.Refusals.{refusal}
-use Rattle.refusal.specs.declared.Reason.the-variants.{Complete}
-use Rattle.refusal.specs.declared.Refusal.{Refusal}
-use Rattle.wire.specs.Parts.{pick}
-use Rattle.wire.specs.declared.view.OptView.the-variants.{Absent}
-use Rattle.field.specs.Fields.{fixed, sized}
-use Rattle.grammar.specs.Grammars.{asView, asOpt, asNumber}
-use Rattle.grammar.specs.Splits.{Pieces, Split, handedOf, FirstLacks}
-use Rattle.grammar.specs.Forms.{Form, valueOf, reading}
-use Rattle.certs.specs.declared.certificate.TlsCertificateContents.{TlsCertificateContents}
-use Rattle.certs.specs.declared.certificate.CertificateAnswer.{CertificateAnswer}
-use Rattle.certs.specs.declared.request.TlsCertificateRequestContents.{TlsCertificateRequestContents}
-use Rattle.certs.specs.declared.request.CertificateRequestAnswer.{CertificateRequestAnswer}
-use Rattle.certs.specs.declared.status.TlsCertificateStatusContents.{TlsCertificateStatusContents}
-use Rattle.certs.specs.declared.status.CertificateStatusAnswer.{CertificateStatusAnswer}
+use Rattle.refusal.specs.{ℕ, _≡_, Bool, true, false, List, [], _∷_, none, refusal, Answer, accepted, refused, orElse, Complete, Refusal}
+use Rattle.wire.specs.{pick, Absent}
+use Rattle.field.specs.{fixed, sized}
+use Rattle.grammar.specs.{asView, asOpt, asNumber, Pieces, Split, handedOf, FirstLacks, Form, valueOf, reading}
+use Rattle.certs.specs.declared.{certificate.CertificateAnswer.CertificateAnswer, certificate.TlsCertificateContents.TlsCertificateContents, request.CertificateRequestAnswer.CertificateRequestAnswer, request.TlsCertificateRequestContents.TlsCertificateRequestContents, status.CertificateStatusAnswer.CertificateStatusAnswer, status.TlsCertificateStatusContents.TlsCertificateStatusContents}
 
--- "Certificate: length 3, then a list of (length 3, bytes)"; RFC 5246 7.4.2
+-- "Certificate: length 3, then a list of (length 3, bytes)", the items `sized 3` of the part; RFC 5246 7.4.2
 abbrev pub certificate : Form TlsCertificateContents
 certificate = record {
   grammar = record { rows = (sized 3, asView) ∷ []; block = none };
@@ -38,7 +26,8 @@ status = record {
 }
 
 -- "long form is type count 1, types, length 2 and signature pairs, length 2 and names (length 2, bytes each). The short form lacks the
--- signature pairs": RFC 5246 7.4.4 and RFC 4346 7.4.4
+-- signature pairs": RFC 5246 7.4.4 and RFC 4346 7.4.4. In the place of the pairs the short form has a field of no bytes, which is handed out
+-- as absent. Types are items `fixed 1` of their part, pairs `fixed 2`, names `sized 2`
 abbrev pub request : Bool → Form TlsCertificateRequestContents
 request long = record {
   grammar = record { rows = (sized 1, asView) ∷ (pick long (sized 2) (fixed 0), asOpt long) ∷ (sized 2, asView) ∷ []; block = none };
@@ -58,7 +47,6 @@ pub record OfRequest (body : List ℕ) : Type 0 where
   pub asShort : (r : Refusal) → FirstLacks (request true .grammar .rows) 0 body r → (x : Pieces (request false .grammar)) → Split (request false .grammar) body x → certificateRequest body ≡ accepted (valueOf (request false) body (handedOf (request false .grammar) x))
   pub neither : (r t : Refusal) → FirstLacks (request true .grammar .rows) 0 body r → FirstLacks (request false .grammar .rows) 0 body t → certificateRequest body ≡ refused (refusal Complete 0 0)
 
--- each as an `Answer`, which has the paper's number and the values
 abbrev pub certificateSays : CertificateAnswer → Answer TlsCertificateContents
 certificateSays (CertificateAnswer.Refused r) = refused r
 certificateSays (CertificateAnswer.Got c) = accepted c

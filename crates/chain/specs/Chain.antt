@@ -1,13 +1,9 @@
 -- Document 01: "certificate lists also get a reader that holds the lent list and its place". What it hands out, where it moves, and what
 -- is shown of every list by `proofs/Same.antt`: it hands out the items of the list (`list/specs/Items.antt`).
-use Rattle.refusal.specs.Words.{ℕ, zero, suc, _≡_, List, RefT, now}
-use Rattle.refusal.specs.Answers.{Answer, accepted, refused}
-use Rattle.refusal.specs.Refusals.{refusal}
-use Rattle.refusal.specs.declared.Reason.the-variants.{NoSuch}
-use Rattle.refusal.specs.declared.Refusal.{Refusal}
-use Rattle.wire.specs.declared.view.Part.{Part}
-use Rattle.field.specs.Fields.{sized}
-use Rattle.list.specs.Items.{itemFrom, items, place}
+use Rattle.refusal.specs.{ℕ, zero, suc, _≡_, List, RefT, now, refusal, Answer, accepted, refused, NoSuch, Refusal}
+use Rattle.wire.specs.{Part}
+use Rattle.field.specs.{sized}
+use Rattle.list.specs.{itemFrom, items, place}
 use Rattle.chain.specs.declared.TlsCertificateReader.{TlsCertificateReader}
 
 -- before the first certificate

@@ -1,11 +1,11 @@
--- The header and the raw record agree, and a body that is opened tells its type. Assumes nothing.
-use Prim.Native.Nat.{ℕ, _+_, _-_, _≤_, _<_}
+-- The header and the raw record agree, a body that is opened tells its type, and a message that is written begins with it. Assumes nothing.
+use Prim.Native.Nat.{ℕ, _+_, _-_, _%_, _≤_, _<_}
 use mathlib.Core.Path.{_≡_, refl, sym, ap, _∙_}
 use mathlib.Core.Bool.{Bool, true, false}
-use mathlib.Core.List.{List}
+use mathlib.Core.List.{List, []}
 use native.Mathlib.Omega.{arith}
-use borrow.Author.Tests.{leb-true, leb-false, eqb-true}
-use lib.ListN.{length}
+use borrow.Author.Tests.{leb-true, leb-false}
+use lib.ListN.{length, getD}
 use lib.Dec.{eqb, leb}
 use Rattle.refusal.specs.Answers.{Answer, accepted, refused, then}
 use Rattle.refusal.specs.Refusals.{refusal, unplaced}
@@ -13,7 +13,7 @@ use Rattle.refusal.specs.declared.Reason.the-variants.{Incomplete, Switch}
 use Rattle.refusal.specs.declared.Refusal.{Refusal}
 use Rattle.refusal.proofs.Then.{not-both, then-accepted}
 use Rattle.wire.specs.Parts.{pick, ifSome}
-use Rattle.wire.specs.Numbers.{be, numberAt}
+use Rattle.wire.specs.Numbers.{be, bytesOf, numberAt}
 use Rattle.wire.specs.declared.view.Part.{Part}
 use Rattle.wire.proofs.Parts.{fits, part-in, part-out}
 use Rattle.wire.proofs.Numbers.{number-got, number-no}
@@ -23,7 +23,7 @@ use Rattle.field.proofs.Rules.{ruled-accepted, unless-none}
 use Rattle.grammar.specs.Reading.{fieldsAt, read}
 use Rattle.grammar.specs.Forms.{reading, byVersion}
 use Rattle.client.specs.Client.{client}
-use Rattle.server.specs.Server.{serverVersions, draft18}
+use Rattle.server.specs.Server.{server, serverVersions, draft18}
 use Rattle.record.specs.Records.{header, raw}
 use Rattle.record.specs.declared.TlsRawRecord.{TlsRawRecord}
 use Rattle.record.specs.declared.TlsRecordHeader.{TlsRecordHeader}
@@ -36,6 +36,11 @@ use Rattle.message.specs.declared.handshake.TlsMessageHandshake.the-variants.{H
 use Rattle.message.proofs.Lookup.{by-rows}
 use Rattle.message.specs.declared.keyexchange.TlsClientKeyExchangeContents.the-variants.{Unknown}
 use Rattle.envelope.specs.Opening.{kinds, opened}
+use Rattle.text.specs.Hellos.{helloText}
+use Rattle.text.specs.Messages.{headText, messageText, viewText}
+use Rattle.genpart.specs.Exchange.{exchangeText}
+use Rattle.genmessage.specs.Messages.{notWritten, handshakeText}
+use Rattle.wayback.proofs.Wrote.{message-wrote}
 use Rattle.claims.specs.Crossed.{HeaderAndRecord, typeOf}
 
 module _ (s : List ℕ) where
@@ -198,3 +203,31 @@ tells-its-type kind n s =
       ),
     )
     (none-told kind)
+
+-- the first byte of a message
+begins : (kind : ℕ) (body : Answer (List ℕ)) (t : List ℕ) → messageText (headText kind) body ≡ accepted t → getD t 0 0 ≡ kind % 256
+unfolding bytesOf
+begins kind body t e = ap (λ (x : List ℕ). getD x 0 0) (sym (message-wrote kind body e .whole))
+
+none-written : {A : Type 0} {t : List ℕ} → notWritten ≡ accepted t → A
+none-written e = absurd (not-both e refl)
+
+pub every-type : (s : List ℕ) (m : TlsMessageHandshake) (t : List ℕ) → handshakeText s m ≡ accepted t → getD t 0 0 ≡ typeOf m
+unfolding handshakeText
+every-type s HelloRequest t e = begins 0x00 (accepted []) t e
+every-type s (ClientHello c) t e = begins 0x01 (helloText client s c) t e
+every-type s (ServerHello c) t e = begins 0x02 (helloText (server true) s c) t e
+every-type s (ServerHelloV13Draft18 c) t e = begins 0x02 (helloText draft18 s c) t e
+every-type s (ClientKeyExchange k) t e = begins 0x10 (exchangeText s k) t e
+every-type s (Finished v) t e = begins 0x14 (viewText s v) t e
+every-type s (NewSessionTicket c) t e = none-written e
+every-type s EndOfEarlyData t e = none-written e
+every-type s (HelloRetryRequest c) t e = none-written e
+every-type s (Certificate c) t e = none-written e
+every-type s (ServerKeyExchange c) t e = none-written e
+every-type s (CertificateRequest c) t e = none-written e
+every-type s (ServerDone v) t e = none-written e
+every-type s (CertificateVerify v) t e = none-written e
+every-type s (CertificateStatus c) t e = none-written e
+every-type s (NextProtocol c) t e = none-written e
+every-type s (KeyUpdate n) t e = none-written e

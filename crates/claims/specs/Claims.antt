@@ -1,42 +1,30 @@
 -- Everything that is claimed beyond the contracts of single functions: one field for each theorem. `claims::all_claims` promises them all,
 -- so that none can go missing.
-use Rattle.refusal.specs.Words.{ℕ, _≤_, _≡_, Bool, List, some, getD, RefT}
-use Rattle.refusal.specs.Refusals.{NumbersApart}
-use Rattle.refusal.specs.Answers.{accepted, OneResult}
-use Rattle.wire.specs.Parts.{partOf, partSays}
-use Rattle.wire.specs.Numbers.{Bytes, numberSays, EachUndoes}
-use Rattle.wire.specs.Puts.{writeSays}
-use Rattle.wire.specs.declared.view.View.{View}
-use Rattle.field.specs.Fields.{Field, fixed, sized}
-use Rattle.field.specs.Standing.{least}
-use Rattle.grammar.specs.Demand3.{BySplit, ByVersion}
-use Rattle.list.specs.Items.{NoneMore}
-use Rattle.list.specs.Listing.{ByItems}
+use Rattle.refusal.specs.{ℕ, _≤_, _≡_, Bool, List, getD, RefT, NumbersApart, accepted, OneResult}
+use Rattle.wire.specs.{partOf, partSays, Bytes, numberSays, EachUndoes, writeSays, View}
+use Rattle.field.specs.{Field, fixed, sized, least}
+use Rattle.grammar.specs.{BySplit, ByVersion}
+use Rattle.list.specs.{NoneMore, ByItems}
 use Rattle.hello.specs.Start.{startSays}
-use Rattle.client.specs.Client.{client, clientSays}
-use Rattle.client.specs.declared.TlsClientHelloContents.{TlsClientHelloContents}
-use Rattle.server.specs.Server.{server, serverVersions, serverSays, draft18, draft18Says}
-use Rattle.server.specs.declared.tlsv12.TlsServerHelloContents.{TlsServerHelloContents}
-use Rattle.server.specs.declared.tlsv13draft18.TlsServerHelloV13Draft18Contents.{TlsServerHelloV13Draft18Contents}
-use Rattle.certs.specs.Certs.{certificate, certificateSays, request, requestSays, status, statusSays, OfRequest}
+use Rattle.client.specs.{client, clientSays, TlsClientHelloContents}
+use Rattle.server.specs.{server, serverVersions, serverSays, draft18, draft18Says, TlsServerHelloContents, TlsServerHelloV13Draft18Contents}
+use Rattle.certs.specs.{certificate, certificateSays, request, requestSays, status, statusSays, OfRequest}
 use Rattle.chain.specs.Chain.{SameItems}
 use Rattle.body.specs.Body.{retry, retrySays, ticketSays, nextProtocol, nextProtocolSays, OfTicket}
-use Rattle.message.specs.Messages.{messageSays}
-use Rattle.message.specs.declared.handshake.TlsMessageHandshake.{TlsMessageHandshake}
+use Rattle.message.specs.{messageSays, TlsMessageHandshake}
+use Rattle.genmessage.specs.Messages.{handshakeText}
 use Rattle.hellos.specs.Hellos.{AsMessage}
-use Rattle.envelope.specs.Opening.{headSays, opened}
+use Rattle.envelope.specs.{headSays, opened}
 use Rattle.walk.specs.Walking.{Walking}
-use Rattle.record.specs.Records.{raw, headerSays, rawSays, encryptedSays}
-use Rattle.plaintext.specs.Plaintext.{plaintextSays, openedSays}
+use Rattle.record.specs.{raw, headerSays, rawSays, encryptedSays}
+use Rattle.plaintext.specs.{plaintextSays, openedSays}
 use Rattle.capture.specs.Captures.{viewIn}
 use Rattle.tell.specs.Messages.{messageNumbers}
-use Rattle.hear.specs.Heard.{heard}
-use Rattle.hear.specs.Again.{Holds, again}
-use Rattle.genmessage.specs.Messages.{handshakeText}
-use Rattle.wayback.specs.WayBack.{EveryText, WritesBack, ReadsAgain, BackByVersion, AgainByVersion, OneText, WayBack}
+use Rattle.hear.specs.{heard, Holds, again}
 use Rattle.readings.specs.Readings.{rows, ownRows, AllRead}
-use Rattle.readcases.specs.Readers.{Readers, OnlyThese, EachGiven}
-use Rattle.writecases.specs.Writers.{Writers, OnlyTheirs, typeWritten}
+use Rattle.readcases.specs.Readers.{Readers}
+use Rattle.wayback.specs.WayBack.{EveryText, WritesBack, ReadsAgain, BackByVersion, AgainByVersion, OneText, WayBack}
+use Rattle.writecases.specs.Writers.{Writers}
 use Rattle.claims.specs.Crossed.{HeaderAndRecord, typeOf}
 
 -- of every list of bytes: what is lent is one by its type, which `claims::bytes_lent` promises
@@ -115,11 +103,8 @@ pub record Claims : Type 0 where
   pub kinds : (kind n : ℕ) (s : List ℕ) (m : TlsMessageHandshake) → opened kind n s ≡ accepted m → typeOf m ≡ kind
   pub paperRows : AllRead rows
   pub otherRows : AllRead ownRows
-  -- "Each is given only then": the number of every reader and writer by places and lengths, which numbers each gives and that it gives
-  -- them, and the type that a written message begins with
-  pub readersSay : (s : List ℕ) → Readers s
-  pub readersGive : (s : List ℕ) → OnlyThese s
-  pub eachGiven : EachGiven
+  -- "Each is given only then": every reader with its number by places and lengths, which refusals it gives and that it gives each; every
+  -- writer with its number and which refusals it gives, and the type that a written message begins with
+  pub readersSay : Readers
   pub writersSay : (s out : List ℕ) → Writers s out
-  pub writersGive : (s out : List ℕ) → OnlyTheirs s out
-  pub writersType : (s : List ℕ) (m : TlsMessageHandshake) (t : List ℕ) → handshakeText s m ≡ accepted t → some (getD t 0 0) ≡ typeWritten m
+  pub writersType : (s : List ℕ) (m : TlsMessageHandshake) (t : List ℕ) → handshakeText s m ≡ accepted t → getD t 0 0 ≡ typeOf m

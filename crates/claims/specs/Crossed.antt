@@ -1,14 +1,10 @@
 -- Rules said a second time over definitions that stand apart, so that a slip in one of them is refused by a proof even where the code has
 -- it too. Shown by `proofs/Crossed.antt`.
-use Rattle.refusal.specs.Words.{ℕ, _+_, _≤_, _≡_, List, getD, eqb}
-use Rattle.refusal.specs.Answers.{accepted, refused}
-use Rattle.refusal.specs.declared.Refusal.{Refusal}
-use Rattle.wire.specs.Parts.{pick}
-use Rattle.grammar.specs.Forms.{reading}
-use Rattle.message.specs.declared.handshake.TlsMessageHandshake.{TlsMessageHandshake}
-use Rattle.envelope.specs.Opening.{opened}
-use Rattle.record.specs.Records.{header, raw}
-use Rattle.record.specs.declared.TlsRawRecord.{TlsRawRecord}
+use Rattle.refusal.specs.{ℕ, _+_, _≤_, _≡_, List, getD, eqb, accepted, refused, Refusal}
+use Rattle.wire.specs.{pick}
+use Rattle.grammar.specs.{reading}
+use Rattle.message.specs.{TlsMessageHandshake}
+use Rattle.record.specs.{header, raw, TlsRawRecord}
 use Rattle.tell.specs.Messages.{messageNumbers}
 
 -- the record header by itself, and the raw record that begins with it: RFC 5246 6.2.1

@@ -1,13 +1,8 @@
 -- The ClientHello: document 01, "The grammar of the three hellos"; RFC 5246 7.4.1.2.
-use Rattle.refusal.specs.Words.{ℕ, List, length, eqb, leb}
-use Rattle.refusal.specs.Answers.{Answer, accepted, refused}
-use Rattle.wire.specs.Parts.{pick}
-use Rattle.wire.specs.Numbers.{be}
-use Rattle.grammar.specs.Hellos.{clientHello}
-use Rattle.grammar.specs.Forms.{Form}
-use Rattle.client.specs.declared.TlsClientHelloContents.{TlsClientHelloContents}
-use Rattle.client.specs.declared.ClientHelloAnswer.{ClientHelloAnswer}
-use Rattle.client.specs.declared.ClientHelloAnswer.the-variants.{Refused, Got}
+use Rattle.refusal.specs.{ℕ, List, length, eqb, leb, Answer, accepted, refused}
+use Rattle.wire.specs.{pick, be}
+use Rattle.grammar.specs.{clientHello, Form}
+use Rattle.client.specs.declared.{ClientHelloAnswer.ClientHelloAnswer, TlsClientHelloContents.TlsClientHelloContents}
 
 abbrev pub client : Form TlsClientHelloContents
 client = record {
@@ -18,12 +13,11 @@ client = record {
   tail = λ c. c .tail;
 }
 
--- as an `Answer`, which has the paper's number and the values
 abbrev pub clientSays : ClientHelloAnswer → Answer TlsClientHelloContents
-clientSays (Refused r) = refused r
-clientSays (Got c) = accepted c
+clientSays (ClientHelloAnswer.Refused r) = refused r
+clientSays (ClientHelloAnswer.Got c) = accepted c
 
--- tls-parser's answer: 0 unless the random has four bytes, since it converts the whole random to a number of four
+-- tls-parser's answer: 0 unless the random has four bytes, since it converts the whole random to a number of four bytes
 abbrev pub randTime : List ℕ → ℕ
 randTime random = pick (eqb (length random) 4) (be 4 random 0) 0
 

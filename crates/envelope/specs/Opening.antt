@@ -1,60 +1,51 @@
 -- The head of a message, what its type opens, and the message: document 01, "The other handshake bodies"; RFC 5246 7.4. "Length and body are
 -- taken before the type is looked at."
-use Rattle.refusal.specs.Words.{ℕ, List, [], _∷_, length}
-use Rattle.refusal.specs.Answers.{Answer, accepted, refused, then, giving, within}
-use Rattle.wire.specs.Numbers.{numberAt}
-use Rattle.field.specs.Fields.{step, sized}
-use Rattle.envelope.specs.declared.TlsMessageHead.{TlsMessageHead}
-use Rattle.envelope.specs.declared.HeadAnswer.{HeadAnswer}
-use Rattle.envelope.specs.declared.HeadAnswer.the-variants.{Refused, Got}
-use Rattle.refusal.specs.Refusals.{refusal, unplaced}
-use Rattle.refusal.specs.declared.Reason.the-variants.{Switch}
-use Rattle.wire.specs.Parts.{partOf, lookup, ifSome}
-use Rattle.grammar.specs.Forms.{reading}
-use Rattle.client.specs.Client.{client}
-use Rattle.certs.specs.Certs.{certificate, certificateRequest, status}
+use Rattle.refusal.specs.{ℕ, List, [], _∷_, length, refusal, unplaced, Answer, accepted, refused, then, giving, within, Switch}
+use Rattle.wire.specs.{partOf, lookup, ifSome, numberAt}
+use Rattle.field.specs.{step, sized}
+use Rattle.grammar.specs.{reading}
+use Rattle.client.specs.{client}
+use Rattle.certs.specs.{certificate, certificateRequest, status}
 use Rattle.body.specs.Body.{retry, sessionTicket, nextProtocol}
-use Rattle.message.specs.declared.keyexchange.TlsClientKeyExchangeContents.the-variants.{Unknown}
-use Rattle.message.specs.declared.handshake.TlsMessageHandshake.{TlsMessageHandshake}
-use Rattle.message.specs.declared.handshake.TlsMessageHandshake.the-variants.{HelloRequest, ClientHello, NewSessionTicket, EndOfEarlyData, HelloRetryRequest, Certificate, ServerKeyExchange, CertificateRequest, ServerDone, CertificateVerify, ClientKeyExchange, Finished, CertificateStatus, NextProtocol, KeyUpdate}
+use Rattle.message.specs.{TlsMessageHandshake, HelloRequest, ClientHello, NewSessionTicket, EndOfEarlyData, HelloRetryRequest, Certificate, ServerKeyExchange, CertificateRequest, ServerDone, CertificateVerify, ClientKeyExchange, Finished, CertificateStatus, NextProtocol, KeyUpdate, Unknown}
 use Rattle.hellos.specs.Hellos.{serverMessage}
 use Rattle.opaque.specs.Whole.{wholeBody}
+use Rattle.envelope.specs.declared.{HeadAnswer.HeadAnswer, TlsMessageHead.TlsMessageHead}
 
 -- "A message is type 1, length 3, body": the head of the one that begins at a place
 unfoldable pub headAt : List ℕ → ℕ → Answer TlsMessageHead
 headAt s at = then (numberAt 1 s at) (λ t. giving (λ b. record { kind = t .value; body = b .view; next = b .next }) (step (sized 3) s (t .next)))
 
--- as an `Answer`, which has the paper's number and the values
 abbrev pub headSays : HeadAnswer → Answer TlsMessageHead
-headSays (Refused r) = refused r
-headSays (Got h) = accepted h
+headSays (HeadAnswer.Refused r) = refused r
+headSays (HeadAnswer.Got h) = accepted h
 
 -- "The type decides": what a body is opened as by each type that is listed, n its length where that is handed over
 abbrev pub kinds : ℕ → List ℕ → List (ℕ × Answer TlsMessageHandshake)
 kinds n s =
     (0x00, accepted HelloRequest)
-    ∷ (0x01, giving (λ c. ClientHello c) (reading client s))
+    ∷ (0x01, giving ClientHello (reading client s))
     ∷ (0x02, serverMessage s)
-    ∷ (0x04, giving (λ c. NewSessionTicket c) (sessionTicket n s))
+    ∷ (0x04, giving NewSessionTicket (sessionTicket n s))
     ∷ (0x05, accepted EndOfEarlyData)
-    ∷ (0x06, giving (λ c. HelloRetryRequest c) (reading retry s))
-    ∷ (0x0b, giving (λ c. Certificate c) (reading certificate s))
+    ∷ (0x06, giving HelloRetryRequest (reading retry s))
+    ∷ (0x0b, giving Certificate (reading certificate s))
     ∷ (0x0c, wholeBody (λ v. ServerKeyExchange (record { parameters = v })) n s)
-    ∷ (0x0d, giving (λ c. CertificateRequest c) (certificateRequest s))
-    ∷ (0x0e, wholeBody (λ v. ServerDone v) n s)
-    ∷ (0x0f, wholeBody (λ v. CertificateVerify v) n s)
+    ∷ (0x0d, giving CertificateRequest (certificateRequest s))
+    ∷ (0x0e, wholeBody ServerDone n s)
+    ∷ (0x0f, wholeBody CertificateVerify n s)
     ∷ (0x10, wholeBody (λ v. ClientKeyExchange (Unknown v)) n s)
-    ∷ (0x14, wholeBody (λ v. Finished v) n s)
-    ∷ (0x16, giving (λ c. CertificateStatus c) (reading status s))
+    ∷ (0x14, wholeBody Finished n s)
+    ∷ (0x16, giving CertificateStatus (reading status s))
     ∷ (0x18, giving (λ u. KeyUpdate (u .value)) (numberAt 1 s 0))
-    ∷ (0x43, giving (λ c. NextProtocol c) (reading nextProtocol s))
+    ∷ (0x43, giving NextProtocol (reading nextProtocol s))
     ∷ []
 
--- the body of a message of a type; "All others, 0x03, 0x08 and 0x15 among them: Switch"
+-- a body opened by its type k, n the length that is handed over besides the bytes; "All others, 0x03, 0x08 and 0x15 among them: Switch"
 unfoldable pub opened : ℕ → ℕ → List ℕ → Answer TlsMessageHandshake
 opened k n s = ifSome (lookup k (kinds n s)) (λ a. a) (refused (unplaced Switch))
 
--- the whole body of a message of a type
+-- the same where the length is that of the bytes
 unfoldable pub byType : ℕ → List ℕ → Answer TlsMessageHandshake
 byType k s = opened k (length s) s
 
@@ -67,10 +58,11 @@ pub record Met : Type 0 where
   pub head : TlsMessageHead
   pub says : TlsMessageHandshake
 
--- the message that begins at a place: what its type opens its body as
+-- the message that begins at a place: its head, whose places are places of s, and what its type opens its body as, whose places count from
+-- the body's first byte
 unfoldable pub metAt : List ℕ → ℕ → Answer Met
 metAt s at = then (headAt s at) (λ h. giving (λ m. record { head = h; says = m }) (byTypeIn at (h .body .start) (h .kind) (partOf s (h .body))))
 
--- the message at the front
+-- the message at the front: its places count from the body's first byte, which is byte 4 of s
 unfoldable pub message : List ℕ → Answer TlsMessageHandshake
 message s = giving (λ x. x .says) (metAt s 0)

@@ -2,7 +2,7 @@
 use Prim.Native.Nat.{ℕ, _+_, _^_, _<_, _≤_}
 use mathlib.Core.Path.{_≡_, refl, sym, _∙_}
 use mathlib.Core.List.{List, _++_}
-use mathlib.Core.Bool.{Bool, true, false}
+use mathlib.Core.Bool.{Bool, true, false, _&&_}
 use native.Mathlib.Omega.{arith}
 use native.Mathlib.Nat.{pow-le-pow-right}
 use borrow.Author.Tests.{eqb-true, ltb-true, eq-eqb, lt-ltb}
@@ -20,9 +20,9 @@ use Rattle.field.specs.Fields.{Field, fixed, counted, Rule}
 use Rattle.field.specs.Standing.{fieldBytes, Obeys}
 use Rattle.field.proofs.Rules.{allows-none, none-allows}
 use Rattle.field.proofs.Steps.{length-counted}
-use Rattle.field.specs.Texts.{both, allowed, unfit, fieldText}
+use Rattle.field.specs.Texts.{allowed, unfit, fieldText}
 
-pub both-true : (a b : Bool) → both a b ≡ true → (a ≡ true) × (b ≡ true)
+pub both-true : (a b : Bool) → (a && b) ≡ true → (a ≡ true) × (b ≡ true)
 both-true true b e = (refl, e)
 both-true false b e = let z : _≡_ {A = ℕ} 0 1 = cc in absurd (omega arith)
 

@@ -1,19 +1,13 @@
 -- A field, its rule, and what reading it at a place finds. RFC 5246 4.3: a variable-length vector is its length in bytes and then its
 -- bytes.
-use Rattle.refusal.specs.Words.{ℕ, _%_, List, Bool, Option, none, some, leb, eqb}
-use Rattle.refusal.specs.Answers.{Answer, refused, then}
-use Rattle.refusal.specs.Refusals.{refusal}
-use Rattle.refusal.specs.declared.Reason.{Reason}
-use Rattle.refusal.specs.declared.Reason.the-variants.{Incomplete, Verify, LengthValue, TooLarge, BadLength}
-use Rattle.refusal.specs.declared.Refusal.{Refusal}
-use Rattle.wire.specs.Parts.{pick, ifSome, partAt}
-use Rattle.wire.specs.Numbers.{numberAt}
-use Rattle.wire.specs.declared.view.Part.{Part}
+use Rattle.refusal.specs.{ℕ, _%_, List, Bool, Option, none, some, leb, eqb, refusal, Answer, refused, then, Reason, Incomplete, Verify, LengthValue, TooLarge, BadLength, Refusal}
+use Rattle.wire.specs.{pick, ifSome, partAt, numberAt, Part}
 use Rattle.field.specs.declared.Kind.{Kind}
 use Rattle.field.specs.declared.Kind.the-variants.{Plain, SessionId, Ciphers, Methods, Fragment}
 
--- the rule of a length: which refusal it gets, if any, made of the place of the length and the place behind it; the refusal where the bytes
--- run past the end; and the refusal to write another
+-- the rule of a length. `broken`: the refusal that a length gets, made of the place of the length and the place behind it; none where the
+-- length is allowed. `past`: why it is refused to read where fewer bytes follow than the length says. `unfit`: why it is refused to write a
+-- part whose length is not allowed
 pub record Rule : Type 0 where
   pub broken : ℕ → Option (ℕ → ℕ → Refusal)
   pub past : Reason

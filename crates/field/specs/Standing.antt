@@ -1,12 +1,7 @@
 -- A field in the bytes, with no reader in it: what its bytes are, which parts it may have, where the part lies, and what it is for the
 -- bytes to lack it. RFC 5246 4.3.
-use Rattle.refusal.specs.Words.{ℕ, _+_, _-_, _^_, _<_, _≡_, _⊎_, List, _++_, none, some, length}
-use Rattle.refusal.specs.Refusals.{refusal}
-use Rattle.refusal.specs.declared.Reason.{Reason}
-use Rattle.refusal.specs.declared.Reason.the-variants.{Incomplete}
-use Rattle.refusal.specs.declared.Refusal.{Refusal}
-use Rattle.wire.specs.Numbers.{bytesOf}
-use Rattle.wire.specs.declared.view.View.{View}
+use Rattle.refusal.specs.{ℕ, _+_, _-_, _^_, _<_, _≡_, _⊎_, List, _++_, none, some, length, refusal, Reason, Incomplete, Refusal}
+use Rattle.wire.specs.{bytesOf, View}
 use Rattle.field.specs.Fields.{Field, fixed, counted, Rule}
 
 -- a field's bytes: the part, behind its length where it is counted
@@ -24,7 +19,7 @@ abbrev pub least : Field → ℕ
 least (fixed n) = n
 least (counted w r) = w
 
--- where a field's part begins, for a field that begins at a place
+-- where the part of a field begins, and the part's view, for a field that begins at a place
 abbrev pub placeOf : Field → ℕ → ℕ
 placeOf (fixed n) at = at
 placeOf (counted w r) at = at + w
@@ -47,7 +42,7 @@ BadPart k n at behind b r =
     ⊎ ((k .broken n ≡ none) × TooFew (k .past) n behind b r)
 
 -- the bytes left at a place lack the field, and this is the refusal set for it: they are too few for the part, or for its length, or the
--- length that stands there has no part
+-- length that stands there is refused, or too few bytes follow it
 abbrev pub Lacks : Field → ℕ → List ℕ → Refusal → Type 0
 Lacks (fixed n) at b r = TooFew Incomplete n at b r
 Lacks (counted w k) at b r =

@@ -1,17 +1,16 @@
 -- Lists told in blocks: the items from a place on, as many as there is room for, each as so many numbers.
-use Rattle.refusal.specs.Words.{ℕ, _/_, List, [], _∷_, map, flatMap, length, take, drop}
-use Rattle.wire.specs.Numbers.{be}
-use Rattle.wire.specs.declared.view.Part.{Part}
-use Rattle.field.specs.Fields.{Field, step, sized}
-use Rattle.list.specs.Items.{items, itemsFrom}
-use Rattle.envelope.specs.Opening.{Met}
-use Rattle.walk.specs.Walks.{messagesFrom}
+use Rattle.refusal.specs.{ℕ, _/_, List, [], _∷_, map, flatMap, length, take, drop}
+use Rattle.wire.specs.{be, Part}
+use Rattle.field.specs.{Field, step, sized}
+use Rattle.list.specs.{items, itemsFrom}
+use Rattle.envelope.specs.{Met}
+use Rattle.walk.specs.{messagesFrom}
 
 -- as many items as there is room for, k numbers each
 abbrev pub block : {A : Type 0} → ℕ → (A → List ℕ) → ℕ → List A → List ℕ
 block k f room xs = flatMap f (take (room / k) xs)
 
--- the numbers of two bytes from the place `from` on
+-- the numbers of two bytes from the list's place `from` on
 abbrev pub numberBlock : ℕ → List ℕ → ℕ → List ℕ
 numberBlock room s from = take room (drop from (map (λ (p : Part). be 2 s (p .view .start)) (items (Field.fixed 2) s)))
 

@@ -1,15 +1,10 @@
 -- A handshake message, written: each kind of document 01's list by its type, and "NotYetImplemented: writing any handshake kind not named
--- above"; RFC 5246 7.4.
-use Rattle.refusal.specs.Words.{ℕ, List, [], true}
-use Rattle.refusal.specs.Answers.{Answer, accepted, refused}
-use Rattle.refusal.specs.Refusals.{unplaced}
-use Rattle.refusal.specs.declared.Reason.the-variants.{NotYetImplemented}
-use Rattle.client.specs.Client.{client}
-use Rattle.server.specs.Server.{server, draft18}
-use Rattle.message.specs.declared.handshake.TlsMessageHandshake.{TlsMessageHandshake}
-use Rattle.message.specs.declared.handshake.TlsMessageHandshake.the-variants.{HelloRequest, ClientHello, ServerHello, ServerHelloV13Draft18, NewSessionTicket, EndOfEarlyData, HelloRetryRequest, Certificate, ServerKeyExchange, CertificateRequest, ServerDone, CertificateVerify, ClientKeyExchange, Finished, CertificateStatus, NextProtocol, KeyUpdate}
-use Rattle.text.specs.Hellos.{helloText}
-use Rattle.text.specs.Messages.{headText, messageText, viewText}
+-- above"; RFC 5246 7.4. A ServerHello's extensions are written at every version, 0x0300 too.
+use Rattle.refusal.specs.{ℕ, List, [], true, unplaced, Answer, accepted, refused, NotYetImplemented}
+use Rattle.text.specs.{helloText, headText, messageText, viewText}
+use Rattle.client.specs.{client}
+use Rattle.server.specs.{server, draft18}
+use Rattle.message.specs.{TlsMessageHandshake, HelloRequest, ClientHello, ServerHello, ServerHelloV13Draft18, NewSessionTicket, EndOfEarlyData, HelloRetryRequest, Certificate, ServerKeyExchange, CertificateRequest, ServerDone, CertificateVerify, ClientKeyExchange, Finished, CertificateStatus, NextProtocol, KeyUpdate}
 use Rattle.genpart.specs.Exchange.{exchangeText}
 
 abbrev pub notWritten : Answer (List ℕ)

@@ -3,7 +3,7 @@
 use Prim.Native.Nat.{ℕ, _+_, _^_, _<_, _≤_}
 use mathlib.Core.Path.{_≡_, refl, sym, ap, _∙_}
 use mathlib.Core.List.{List, [], _++_, append-nil}
-use mathlib.Core.Bool.{Bool, true, false, not}
+use mathlib.Core.Bool.{Bool, true, false, not, _&&_}
 use native.Mathlib.Omega.{arith}
 use native.Mathlib.Nat.{pow-le-pow-right}
 use borrow.Author.Tests.{ltb-true, not-true, not-false}
@@ -12,18 +12,18 @@ use Rattle.refusal.specs.Answers.{Answer, accepted, refused, then}
 use Rattle.refusal.specs.Refusals.{unplaced}
 use Rattle.refusal.specs.declared.Reason.the-variants.{BadLength}
 use Rattle.refusal.specs.declared.Refusal.{Refusal}
-use Rattle.wire.specs.Parts.{pick, partOf}
+use Rattle.wire.specs.Parts.{pick, partOf, liesIn}
 use Rattle.wire.specs.Numbers.{bytesOf}
 use Rattle.wire.specs.declared.view.View.{View}
 use Rattle.wire.proofs.Puts.{Came, text-refused}
 use Rattle.field.specs.Fields.{ruleOf, sized}
 use Rattle.field.specs.declared.Kind.the-variants.{Plain}
 use Rattle.field.specs.Standing.{fieldBytes}
-use Rattle.field.specs.Texts.{both, allowed, fieldText}
+use Rattle.field.specs.Texts.{allowed, fieldText}
 use Rattle.field.proofs.Steps.{length-counted}
 use Rattle.field.proofs.Texts.{both-true, text-may, text-not}
 use Rattle.grammar.specs.Grammars.{asView}
-use Rattle.text.specs.Hellos.{inside, mayStand}
+use Rattle.text.specs.Hellos.{mayStand}
 use Rattle.text.specs.Messages.{headText, messageText, viewText, sizedText}
 use Rattle.text.proofs.Messages.{Message, headBytes, head-is, message-is, message-refused, same-text, short-head}
 
@@ -34,7 +34,7 @@ empty kind =
     h ∙ sym (message-is (headText kind) (headBytes kind 0) [] h refl ∙ rw append-nil)
 
 -- a part that lies outside, or is too long for the field, is no text of it
-not-field : (w : ℕ) (t : Bool) (p : List ℕ) → both t (allowed (sized w) (length p)) ≡ false
+not-field : (w : ℕ) (t : Bool) (p : List ℕ) → (t && allowed (sized w) (length p)) ≡ false
     → then (pick t (accepted p) (refused (unplaced BadLength))) (λ q. fieldText (sized w) q) ≡ refused (unplaced BadLength)
 not-field w true p e = text-not (sized w) p e
 not-field w false p e = refl
@@ -52,7 +52,7 @@ pub record SizedMessage (kind : ℕ) (s : List ℕ) (v : View) (w : ℕ) (p : Li
 module _ (s : List ℕ) (v : View) where
   sized-not : (w : ℕ) → mayStand (sized w) asView s v ≡ false → sizedText w s v ≡ refused (unplaced BadLength)
   unfolding sizedText viewText
-  sized-not w e = not-field w (inside s v) (partOf s v) e
+  sized-not w e = not-field w (liesIn s v) (partOf s v) e
 
   -- a part that may not be written
   pub sized-refused : (w kind : ℕ) (d : List ℕ) {t : Bool} {r : Refusal} → t ≡ mayStand (sized w) asView s v → not t ≡ true → r ≡ unplaced BadLength → Came (messageText (headText kind) (sizedText w s v)) 0 d (refused r) d
@@ -69,10 +69,10 @@ module _ (s : List ℕ) (v : View) where
 
     view-is : viewText s v ≡ accepted p
     unfolding viewText
-    view-is = rw q (ap (λ (t : Bool). pick t (accepted (partOf s v)) (refused (unplaced BadLength))) (both-true (inside s v) _ may .0))
+    view-is = rw q (ap (λ (t : Bool). pick t (accepted (partOf s v)) (refused (unplaced BadLength))) (both-true (liesIn s v) _ may .0))
 
     stands : allowed (sized w) (length p) ≡ true
-    stands = rw q (both-true (inside s v) _ may .1)
+    stands = rw q (both-true (liesIn s v) _ may .1)
 
     below : length p < 256 ^ w
     below = ltb-true _ _ (both-true _ _ stands .0)

@@ -1,15 +1,10 @@
 -- A record written: document 01, "The record writer refuses more than 16,640 bytes as TooLarge; it writes an empty one. It copies the type,
 -- the version and the lent bytes, and does not open them." The bytes are the fields by which a raw record is read, joined; RFC 5246 6.2.1.
-use Rattle.refusal.specs.Words.{ℕ, List, length}
-use Rattle.refusal.specs.Answers.{Answer, accepted, refused}
-use Rattle.refusal.specs.Refusals.{unplaced}
-use Rattle.refusal.specs.declared.Reason.the-variants.{TooLarge}
-use Rattle.wire.specs.Parts.{pick}
-use Rattle.wire.specs.Numbers.{bytesOf}
-use Rattle.field.specs.Texts.{allowed}
-use Rattle.grammar.specs.Splits.{join}
-use Rattle.record.specs.Records.{fragment, raw}
-use Rattle.record.specs.declared.TlsRecordHeader.{TlsRecordHeader}
+use Rattle.refusal.specs.{ℕ, List, length, unplaced, Answer, accepted, refused, TooLarge}
+use Rattle.wire.specs.{pick, bytesOf}
+use Rattle.field.specs.{allowed}
+use Rattle.grammar.specs.{join}
+use Rattle.record.specs.{fragment, raw, TlsRecordHeader}
 
 -- the header's own length is not looked at: the content's is written
 abbrev pub recordBytes : TlsRecordHeader → List ℕ → List ℕ

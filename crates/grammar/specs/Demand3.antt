@@ -1,22 +1,13 @@
 -- Demand 3, its reading half, for every form: what is shown of the reading. Splits and lacks are those of `Splits.antt`, with no reader in
 -- them.
-use Rattle.refusal.specs.Words.{ℕ, _+_, _≤_, _≡_, Option, none, some, _⊎_, List, [], _∷_, length}
-use Rattle.wire.specs.declared.view.OptView.{OptView}
-use Rattle.wire.specs.declared.view.OptView.the-variants.{Absent}
-use Rattle.field.specs.Fields.{Field, fixed}
+use Rattle.refusal.specs.{ℕ, _+_, _≤_, _≡_, Option, none, some, _⊎_, List, [], _∷_, length, refusal, accepted, refused, Incomplete, Tag, Refusal}
+use Rattle.wire.specs.{lookup, Bytes, be, OptView, Absent, View}
+use Rattle.field.specs.{Field, fixed, TooFew}
 use Rattle.grammar.specs.Grammars.{asView, asOpt, asNumber, Row, Each}
 use Rattle.grammar.specs.Forms.{Outs, Form, valueOf, reading, pieces, views, Listing, byVersion, Announces}
-use Rattle.refusal.specs.Answers.{accepted, refused}
-use Rattle.refusal.specs.Refusals.{refusal}
-use Rattle.refusal.specs.declared.Reason.the-variants.{Incomplete, Tag}
-use Rattle.refusal.specs.declared.Refusal.{Refusal}
-use Rattle.wire.specs.Numbers.{Bytes, be}
-use Rattle.wire.specs.declared.view.View.{View}
-use Rattle.field.specs.Standing.{TooFew}
 use Rattle.grammar.specs.Splits.{Pieces, Split, handedOf, FirstLacks}
-use Rattle.wire.specs.Parts.{lookup}
 
--- a field of w bytes alone is handed out as a number of w bytes
+-- only a fixed field of w bytes is handed out as a number of w bytes
 abbrev pub Suits : Row → Type 0
 Suits (f, asView) = Unit
 Suits (f, asOpt empty) = Unit
@@ -27,6 +18,7 @@ abbrev pub ifAny : Option Field → OptView → OptView
 ifAny none e = Absent
 ifAny (some f) e = e
 
+-- what is asked of a form: its value gives back what it was made of, and its numbers are fixed fields of their width
 pub record Lawful {C : Type 0} (k : Form C) : Type 0 where
   pub suits : Each Suits (k .grammar .rows)
   pub handed : (o : Outs (k .grammar .rows)) (e : OptView) (t : ℕ) → k .handed (k .value o e t) ≡ o

@@ -1,18 +1,12 @@
 -- What is handed out of a body as a value of the code, a hello's contents. A form has its grammar and the value made of what each row hands
 -- out; and a value tells what it was made of. From this, and with no reader, the pieces and the views that a value names.
-use Rattle.refusal.specs.Words.{ℕ, _≤_, List, [], _∷_, true, false, drop, length, eqb, _≡_, Option, none, some}
-use Rattle.refusal.specs.Answers.{Answer, accepted, then, refused}
-use Rattle.wire.specs.Numbers.{be, bytesOf, numberAt}
-use Rattle.wire.specs.Parts.{pick, partOf, optPartOf, lookup}
-use Rattle.wire.specs.declared.view.View.{View}
-use Rattle.wire.specs.declared.view.OptView.{OptView}
-use Rattle.wire.specs.declared.view.OptView.the-variants.{Absent, Present}
+use Rattle.refusal.specs.{ℕ, _≤_, List, [], _∷_, true, false, drop, length, eqb, _≡_, Option, none, some, refusal, Answer, then, refused, Tag, giving}
+use Rattle.wire.specs.{pick, partOf, optPartOf, lookup, be, bytesOf, numberAt, OptView, Absent, Present, View}
 use Rattle.grammar.specs.Grammars.{How, asView, asOpt, asNumber, Row, Grammar, Each, each, gather, Views, Parts, Handed}
 use Rattle.grammar.specs.Splits.{Pieces, blockOf}
 use Rattle.grammar.specs.Reading.{read}
-use Rattle.refusal.specs.Refusals.{refusal}
-use Rattle.refusal.specs.declared.Reason.the-variants.{Tag}
 
+-- what a field is handed out as
 abbrev pub Out : How → Type 0
 Out asView = View
 Out (asOpt empty) = OptView
@@ -29,23 +23,24 @@ out (asOpt true) s v = Present v
 out (asOpt false) s v = absentIfEmpty v
 out (asNumber w) s v = be w s (v .start)
 
--- the bytes that it names
+-- the bytes that a thing handed out names: those of its view, none where it is absent, the bytes of a number
 abbrev pub named : (m : How) → List ℕ → Out m → List ℕ
 named asView s v = partOf s v
 named (asOpt empty) s o = optPartOf s o
 named (asNumber w) s n = bytesOf w n
 
--- the view that it is, if it is one, and those after it
+-- a view, if there is one, before others
 abbrev pub ifThere : OptView → List View → List View
 ifThere Absent vs = vs
 ifThere (Present v) vs = v ∷ vs
 
+-- the views in a thing handed out, one or none, before those of later rows
 abbrev pub seen : (m : How) → Out m → List View → List View
 seen asView v vs = v ∷ vs
 seen (asOpt empty) o vs = ifThere o vs
 seen (asNumber w) n vs = vs
 
--- the same for each row
+-- one thing handed out for each row; and `out`, `named` and `seen` over all rows
 abbrev pub Outs : List Row → Type 0
 Outs rs = Each (λ (f, m). Out m) rs
 
@@ -58,10 +53,11 @@ allNamed rs s os = each (λ (f, m) o. named m s o) rs os
 abbrev pub allSeen : (rs : List Row) → Outs rs → List View → List View
 allSeen rs os after = gather (λ (f, m) o vs. seen m o vs) after rs os
 
+-- how a body becomes a value: its grammar; the value made of what the rows hand out, the block and where the tail begins; and these three
+-- back from a value
 pub record Form (C : Type 0) : Type 0 where
   pub grammar : Grammar
   pub value : Outs (grammar .rows) → OptView → ℕ → C
-  -- what a value was made of
   pub handed : C → Outs (grammar .rows)
   pub block : C → OptView
   pub tail : C → ℕ
@@ -72,18 +68,17 @@ valueOf k s h = k .value (outs (k .grammar .rows) s (h .views)) (h .block) (h .t
 
 -- the answer to reading by a form
 unfoldable pub reading : {C : Type 0} → Form C → List ℕ → Answer C
-reading k s = then (read (k .grammar) s) (λ h. accepted (valueOf k s h))
+reading k s = giving (λ h. valueOf k s h) (read (k .grammar) s)
 
 -- the pieces of the bytes that a value names
 abbrev pub pieces : {C : Type 0} (k : Form C) → List ℕ → C → Pieces (k .grammar)
 pieces k s c = record { parts = allNamed (k .grammar .rows) s (k .handed c); block = blockOf s (k .block c); tail = drop (k .tail c) s }
 
--- the views in it, in field order
+-- the views in a value, in field order
 abbrev pub views : {C : Type 0} (k : Form C) → C → List View
 views k c = allSeen (k .grammar .rows) (k .handed c) (ifThere (k .block c) [])
 
--- "The ServerHello version is looked at before anything else; under 2 bytes is Incomplete", and Tag for one that is not listed: the form of
--- each version that is
+-- the versions listed, and the form of each
 abbrev pub Listing : Type 0 → Type 0
 Listing C = List (ℕ × Form C)
 
@@ -91,6 +86,7 @@ abbrev pub ifListed : {C : Type 0} → Option (Form C) → List ℕ → Answer C
 ifListed (some k) s = reading k s
 ifListed none s = refused (refusal Tag 0 0)
 
+-- "The ServerHello version is looked at before anything else; under 2 bytes is Incomplete"; Tag for one that is not listed
 unfoldable pub byVersion : {C : Type 0} → Listing C → List ℕ → Answer C
 byVersion forms s = then (numberAt 2 s 0) (λ v. ifListed (lookup (v .value) forms) s)
 

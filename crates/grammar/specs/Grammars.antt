@@ -1,11 +1,11 @@
 -- A grammar is data: rows in order, and an optional last block. Document 01: "Checks go in field order"; extensions are taken "if both are
 -- there", length and bytes.
-use Rattle.refusal.specs.Words.{ℕ, List, [], _∷_, Bool, Option}
-use Rattle.wire.specs.declared.view.View.{View}
-use Rattle.wire.specs.declared.view.OptView.{OptView}
-use Rattle.field.specs.Fields.{Field}
+use Rattle.refusal.specs.{ℕ, List, [], _∷_, Bool, Option}
+use Rattle.wire.specs.{OptView, View}
+use Rattle.field.specs.{Field}
 
--- a field is handed out as a view, as a part that may be absent (an empty one is present or not by the Bool), or as a number of w bytes
+-- a field is handed out as a view, as a part that may be absent (`asOpt true`: an empty one is present; `asOpt false`: it is absent), or as a
+-- number of w bytes
 pub data How : Type 0 where
   asView : How
   asOpt : Bool → How

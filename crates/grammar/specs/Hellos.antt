@@ -1,9 +1,8 @@
 -- The grammars of the three hellos: document 01, "The grammar of the three hellos"; RFC 5246 7.4.1.2 (ClientHello), 7.4.1.3 (ServerHello),
 -- 7.4.1.4 (extensions). The draft 18 hello is draft-ietf-tls-tls13-18's, 4.1.3.
-use Rattle.refusal.specs.Words.{[], _∷_, Bool, false, none, some}
-use Rattle.wire.specs.Parts.{pick}
-use Rattle.field.specs.Fields.{Field, fixed, counted, sized, ruleOf}
-use Rattle.field.specs.declared.Kind.the-variants.{SessionId, Ciphers, Methods}
+use Rattle.refusal.specs.{[], _∷_, Bool, false, none, some}
+use Rattle.wire.specs.{pick}
+use Rattle.field.specs.{Field, fixed, counted, sized, ruleOf, SessionId, Ciphers, Methods}
 use Rattle.grammar.specs.Grammars.{Row, asView, asOpt, asNumber, Grammar}
 
 abbrev pub version : Row
@@ -16,11 +15,11 @@ random = (fixed 32, asView)
 abbrev pub sessionId : Row
 sessionId = (counted 1 (ruleOf SessionId), asOpt false)
 
--- cipher length 2 (even, 0 allowed), ciphers
+-- cipher length 2 (even, 0 allowed), ciphers: a list of items `fixed 2`
 abbrev pub ciphers : Row
 ciphers = (counted 2 (ruleOf Ciphers), asView)
 
--- compression length 1 (0 allowed), methods
+-- compression length 1 (0 allowed), methods: a list of items `fixed 1`
 abbrev pub methods : Row
 methods = (counted 1 (ruleOf Methods), asView)
 

@@ -1,16 +1,14 @@
 -- What reading by a grammar finds: the fields in order, then the block where it fits. The first field that cannot be had refuses.
-use Rattle.refusal.specs.Words.{ℕ, List, [], _∷_, Option, none, some}
-use Rattle.refusal.specs.Answers.{Answer, accepted, refused, then}
-use Rattle.wire.specs.declared.view.Part.{Part}
-use Rattle.wire.specs.declared.view.OptView.the-variants.{Absent, Present}
-use Rattle.field.specs.Fields.{Field, step}
+use Rattle.refusal.specs.{ℕ, List, [], _∷_, Option, none, some, Answer, accepted, refused, then, giving}
+use Rattle.wire.specs.{Absent, Present, Part}
+use Rattle.field.specs.{Field, step}
 use Rattle.grammar.specs.Grammars.{Row, Grammar, Views, Handed}
 use Rattle.grammar.specs.declared.OptPart.{OptPart}
 
 -- the fields from a place on, and the place past them; the first that cannot be had refuses
 unfoldable pub fieldsAt : (rs : List Row) → List ℕ → ℕ → Answer (Views rs × ℕ)
 fieldsAt [] s at = accepted (tt, at)
-fieldsAt ((f, m) ∷ rs) s at = then (step f s at) (λ p. then (fieldsAt rs s (p .next)) (λ q. accepted ((p .view, q .0), q .1)))
+fieldsAt ((f, m) ∷ rs) s at = then (step f s at) (λ p. giving (λ q. ((p .view, q .0), q .1)) (fieldsAt rs s (p .next)))
 
 abbrev pub ifFits : Answer Part → ℕ → OptPart
 ifFits (accepted p) at = record { view = Present (p .view); next = p .next }
@@ -29,4 +27,4 @@ abbrev pub withLast : (g : Grammar) → Views (g .rows) → OptPart → Handed g
 withLast g vs e = record { views = vs; block = e .view; tail = e .next }
 
 unfoldable pub read : (g : Grammar) → List ℕ → Answer (Handed g)
-read g s = then (fieldsAt (g .rows) s 0) (λ q. accepted (withLast g (q .0) (lastAt (g .block) s (q .1))))
+read g s = giving (λ q. withLast g (q .0) (lastAt (g .block) s (q .1))) (fieldsAt (g .rows) s 0)

@@ -20,7 +20,7 @@ use Rattle.message.specs.declared.keyexchange.TlsClientKeyExchangeContents.the-
 use Rattle.message.specs.declared.handshake.TlsMessageHandshake.{TlsMessageHandshake}
 use Rattle.message.specs.declared.handshake.TlsMessageHandshake.the-variants.{HelloRequest, ClientHello, ServerHello, ServerHelloV13Draft18, NewSessionTicket, EndOfEarlyData, HelloRetryRequest, Certificate, ServerKeyExchange, CertificateRequest, ServerDone, CertificateVerify, ClientKeyExchange, Finished, CertificateStatus, NextProtocol, KeyUpdate}
 use Rattle.tell.specs.Messages.{messageNumbers}
-use Rattle.hear.specs.Heard.{heard, heardClient, heardServer, heardDraft18, heardExchange, heardFinished}
+use Rattle.hear.specs.Heard.{ifFit, heardAs, heard}
 use Rattle.hear.specs.Again.{Holds, again}
 
 abbrev Back : TlsMessageHandshake → Type 0
@@ -32,7 +32,7 @@ some k ks = le-leb 1 (length (k ∷ ks)) (omega arith)
 
 client : (version : ℕ) (random : View) (id : OptView) (ciphers comp : View) (ext : OptView) (tail : ℕ) → version < 0x10000
     → Back (ClientHello (record { version = version; random = random; «session_id» = id; ciphers = ciphers; comp = comp; ext = ext; tail = tail }))
-unfolding heard heardClient
+unfolding heard heardAs ifFit
 client v r Absent cs m Absent t h = rw lt-ltb
 client v r Absent cs m (Present e) t h = rw lt-ltb
 client v r (Present i) cs m Absent t h = rw lt-ltb
@@ -40,7 +40,7 @@ client v r (Present i) cs m (Present e) t h = rw lt-ltb
 
 server : (version : ℕ) (random : View) (id : OptView) (cipher compression : ℕ) (ext : OptView) (tail : ℕ) → version < 0x10000 → cipher < 0x10000 → compression < 0x100
     → Back (ServerHello (record { version = version; random = random; «session_id» = id; cipher = cipher; compression = compression; ext = ext; tail = tail }))
-unfolding heard heardServer
+unfolding heard heardAs ifFit
 server v r Absent k m Absent t h i j = simp lt-ltb
 server v r Absent k m (Present e) t h i j = simp lt-ltb
 server v r (Present p) k m Absent t h i j = simp lt-ltb
@@ -48,12 +48,12 @@ server v r (Present p) k m (Present e) t h i j = simp lt-ltb
 
 draft18 : (version : ℕ) (random : View) (cipher : ℕ) (ext : OptView) (tail : ℕ) → version < 0x10000 → cipher < 0x10000
     → Back (ServerHelloV13Draft18 (record { version = version; random = random; cipher = cipher; ext = ext; tail = tail }))
-unfolding heard heardDraft18
+unfolding heard heardAs ifFit
 draft18 v r k Absent t h i = simp lt-ltb
 draft18 v r k (Present e) t h i = simp lt-ltb
 
 exchange : (k : TlsClientKeyExchangeContents) → Back (ClientKeyExchange k)
-unfolding heard heardExchange
+unfolding heard heardAs ifFit
 exchange (Dh v) = refl
 exchange (Ecdh v) = refl
 exchange (Unknown v) = refl
@@ -73,7 +73,7 @@ draft18-again c h =
     draft18 (c .version) (c .random) (c .cipher) (c .ext) (c .tail) v k
 
 pub heard-again : (m : TlsMessageHandshake) → Holds m → heard (messageNumbers m) ≡ again m
-unfolding heard heardFinished
+unfolding heard heardAs ifFit
 heard-again HelloRequest h = refl
 heard-again (ClientHello c) h = client-again c h
 heard-again (ServerHello c) h = server-again c h

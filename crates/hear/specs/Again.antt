@@ -1,13 +1,10 @@
 -- Hearing undoes telling: the numbers that are told of a message are heard as that message where its kind is written, and are
 -- NotYetImplemented where it is not. Shown by `proofs/Again.antt`.
-use Rattle.refusal.specs.Words.{ℕ, _<_, _≡_, Bool, _||_, eqb}
-use Rattle.refusal.specs.Answers.{Answer, accepted}
-use Rattle.wire.specs.Parts.{pick}
-use Rattle.client.specs.declared.TlsClientHelloContents.{TlsClientHelloContents}
-use Rattle.server.specs.declared.tlsv12.TlsServerHelloContents.{TlsServerHelloContents}
-use Rattle.server.specs.declared.tlsv13draft18.TlsServerHelloV13Draft18Contents.{TlsServerHelloV13Draft18Contents}
-use Rattle.message.specs.declared.handshake.TlsMessageHandshake.{TlsMessageHandshake}
-use Rattle.message.specs.declared.handshake.TlsMessageHandshake.the-variants.{ClientHello, ServerHello, ServerHelloV13Draft18}
+use Rattle.refusal.specs.{ℕ, _<_, _≡_, Bool, _||_, eqb, Answer, accepted}
+use Rattle.wire.specs.{pick}
+use Rattle.client.specs.{TlsClientHelloContents}
+use Rattle.server.specs.{TlsServerHelloContents, TlsServerHelloV13Draft18Contents}
+use Rattle.message.specs.{TlsMessageHandshake, ClientHello, ServerHello, ServerHelloV13Draft18}
 use Rattle.tell.specs.Messages.{messageNumbers}
 use Rattle.hear.specs.Heard.{at, notWritten}
 

@@ -2,7 +2,7 @@
 ghost use mathlib.Core.Path.{_≡_};
 ghost use Rattle.message.specs.Messages.{messageSays};
 ghost use lib.Dec.{eqb};
-ghost use Rattle.hear.specs.Heard.{bad, heard, heardClient, heardDraft18, heardExchange, heardFinished, heardServer};
+ghost use Rattle.hear.specs.Heard.{bad, heard, heardAs};
 ghost use Rattle.wire.specs.Parts.{pick};
 ghost use Rattle.wire.specs.declared.view.OptView.the-variants.{Absent, Present};
 use client::TlsClientHelloContents;
@@ -31,7 +31,7 @@ fn opt_view(present: usize, start: usize, len: usize) -> OptView
 }
 
 fn hear_client(m: &[usize]) -> MessageAnswer
-    ensures { λ r. ⌜ messageSays r ≡ heardClient (now (m .entry)) ⌝ }
+    ensures { λ r. ⌜ messageSays r ≡ heardAs 1 (now (m .entry)) ⌝ }
 {
     if m.len() < 15 {
         return bad_numbers();
@@ -66,7 +66,7 @@ fn hear_client(m: &[usize]) -> MessageAnswer
 }
 
 fn hear_server(m: &[usize]) -> MessageAnswer
-    ensures { λ r. ⌜ messageSays r ≡ heardServer (now (m .entry)) ⌝ }
+    ensures { λ r. ⌜ messageSays r ≡ heardAs 2 (now (m .entry)) ⌝ }
 {
     if m.len() < 13 {
         return bad_numbers();
@@ -101,7 +101,7 @@ fn hear_server(m: &[usize]) -> MessageAnswer
 }
 
 fn hear_draft18(m: &[usize]) -> MessageAnswer
-    ensures { λ r. ⌜ messageSays r ≡ heardDraft18 (now (m .entry)) ⌝ }
+    ensures { λ r. ⌜ messageSays r ≡ heardAs 0x7f12 (now (m .entry)) ⌝ }
 {
     if m.len() < 9 {
         return bad_numbers();
@@ -129,7 +129,7 @@ fn hear_draft18(m: &[usize]) -> MessageAnswer
 }
 
 fn hear_exchange(m: &[usize]) -> MessageAnswer
-    ensures { λ r. ⌜ messageSays r ≡ heardExchange (now (m .entry)) ⌝ }
+    ensures { λ r. ⌜ messageSays r ≡ heardAs 16 (now (m .entry)) ⌝ }
 {
     if m.len() < 4 {
         return bad_numbers();
@@ -157,7 +157,7 @@ fn hear_exchange(m: &[usize]) -> MessageAnswer
 }
 
 fn hear_finished(m: &[usize]) -> MessageAnswer
-    ensures { λ r. ⌜ messageSays r ≡ heardFinished (now (m .entry)) ⌝ }
+    ensures { λ r. ⌜ messageSays r ≡ heardAs 20 (now (m .entry)) ⌝ }
 {
     if m.len() < 3 {
         return bad_numbers();

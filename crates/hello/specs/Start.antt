@@ -1,12 +1,8 @@
 -- What a ClientHello and a ServerHello begin with: version, random and session id in both, RFC 5246 7.4.1.2 and 7.4.1.3.
-use Rattle.refusal.specs.Words.{[], _∷_, none}
-use Rattle.refusal.specs.Answers.{Answer, accepted, refused}
-use Rattle.wire.specs.declared.view.OptView.the-variants.{Absent}
-use Rattle.grammar.specs.Hellos.{version, random, sessionId}
-use Rattle.grammar.specs.Forms.{Form}
-use Rattle.hello.specs.declared.Start.{Start}
-use Rattle.hello.specs.declared.StartAnswer.{StartAnswer}
-use Rattle.hello.specs.declared.StartAnswer.the-variants.{Refused, Got}
+use Rattle.refusal.specs.{[], _∷_, none, Answer, accepted, refused}
+use Rattle.wire.specs.{Absent}
+use Rattle.grammar.specs.{version, random, sessionId, Form}
+use Rattle.hello.specs.declared.{Start.Start, StartAnswer.StartAnswer}
 
 abbrev pub start : Form Start
 start = record {
@@ -17,7 +13,6 @@ start = record {
   tail = λ a. a .next;
 }
 
--- as an `Answer`, which has the paper's number and the values
 abbrev pub startSays : StartAnswer → Answer Start
-startSays (Refused r) = refused r
-startSays (Got a) = accepted a
+startSays (StartAnswer.Refused r) = refused r
+startSays (StartAnswer.Got a) = accepted a

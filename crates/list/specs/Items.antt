@@ -1,25 +1,21 @@
 -- Lists. Document 01: "A list inside its announced length ends at the first item that does not fit; the remainder is dropped." And its
 -- table: NoSuch for "a list place at or past the count".
-use Rattle.refusal.specs.Words.{ℕ, zero, suc, _≤_, _≡_, List, [], _∷_, length}
-use Rattle.refusal.specs.Answers.{Answer, accepted, refused, then, orElse}
-use Rattle.refusal.specs.Refusals.{refusal}
-use Rattle.refusal.specs.declared.Reason.the-variants.{NoSuch}
-use Rattle.wire.specs.Numbers.{be}
-use Rattle.wire.specs.declared.view.Part.{Part}
-use Rattle.wire.specs.declared.number.Number.{Number}
-use Rattle.field.specs.Fields.{Field, step}
-use Rattle.field.specs.Standing.{least}
+use Rattle.refusal.specs.{ℕ, zero, suc, _≤_, _≡_, List, [], _∷_, length, refusal, Answer, accepted, refused, orElse, NoSuch, giving}
+use Rattle.wire.specs.{be, Number, Part}
+use Rattle.field.specs.{Field, step, least}
 
+-- what is found and what follows it, or nothing
 abbrev pub goOn : {A : Type 0} → Answer A → (A → List A) → List A
 goOn (accepted x) k = x ∷ k x
 goOn (refused r) k = []
 
--- the items from a place on, of which there are at most so many: what is found at a place, and the place past it
+-- the items from the byte `at` on, one behind the other until none is found: `find` looks at a byte, `past x` is the byte past x. At most n of
+-- them: a bound for the recursion, which never ends a list (`NoneMore`)
 unfoldable pub itemsFrom : {A : Type 0} → ℕ → (ℕ → Answer A) → (A → ℕ) → ℕ → List A
 itemsFrom zero find past at = []
 itemsFrom (suc n) find past at = goOn (find at) (λ x. itemsFrom n find past (past x))
 
--- what stands at a place of a list
+-- the item at place n of a list, counted from 0; NoSuch at or past the count
 unfoldable pub place : {A : Type 0} → ℕ → List A → Answer A
 place n [] = refused (refusal NoSuch 0 0)
 place zero (x ∷ xs) = accepted x
@@ -29,7 +25,7 @@ place (suc n) (x ∷ xs) = place n xs
 abbrev pub orNoSuch : {A : Type 0} → Answer A → Answer A
 orNoSuch a = orElse a (refused (refusal NoSuch 0 0))
 
--- the item that begins at a place, where one fits
+-- the item that begins at a byte, where one fits
 unfoldable pub itemFrom : Field → List ℕ → ℕ → Answer Part
 itemFrom f s at = orNoSuch (step f s at)
 
@@ -41,6 +37,6 @@ items f s = itemsFrom (length s) (step f s) (λ p. p .next) 0
 abbrev pub NoneMore : Type 0
 NoneMore = (f : Field) → 1 ≤ least f → (s : List ℕ) (n : ℕ) → length s ≤ n → itemsFrom n (step f s) (λ p. p .next) 0 ≡ items f s
 
--- the number at a place of a list of numbers of w bytes, and the place past it
+-- the number at place n of a list of numbers of w bytes, and the byte past it
 abbrev pub numberPlace : ℕ → ℕ → List ℕ → Answer Number
-numberPlace n w s = then (place n (items (Field.fixed w) s)) (λ p. accepted (record { value = be w s (p .view .start); next = p .next }))
+numberPlace n w s = giving (λ p. record { value = be w s (p .view .start); next = p .next }) (place n (items (Field.fixed w) s))

@@ -1,14 +1,8 @@
 -- What the bytes of a list are, with no reader in it: the items joined in order with their lengths, then a remainder at whose front no item
 -- stands. And what is shown of the items handed out.
-use Rattle.refusal.specs.Words.{ℕ, suc, _+_, _<_, _≤_, _≡_, List, [], _∷_, _++_, map, length}
-use Rattle.refusal.specs.Answers.{accepted, refused}
-use Rattle.refusal.specs.Refusals.{refusal}
-use Rattle.refusal.specs.declared.Reason.the-variants.{NoSuch}
-use Rattle.wire.specs.Parts.{partOf}
-use Rattle.wire.specs.Numbers.{Bytes}
-use Rattle.wire.specs.declared.view.Part.{Part}
-use Rattle.field.specs.Fields.{Field}
-use Rattle.field.specs.Standing.{fieldBytes, Obeys, least, NoneAt, viewOf}
+use Rattle.refusal.specs.{ℕ, suc, _+_, _<_, _≤_, _≡_, List, [], _∷_, _++_, map, length, refusal, accepted, refused, NoSuch}
+use Rattle.wire.specs.{partOf, Part}
+use Rattle.field.specs.{Field, fieldBytes, Obeys, NoneAt, viewOf}
 use Rattle.list.specs.Items.{items, itemFrom, place}
 
 abbrev pub EachObeys : Field → List (List ℕ) → Type 0

@@ -1,19 +1,14 @@
--- The answer of a reader of messages, and where what a message's reader leaves over begins. Document 01: "What a body parser leaves over is
--- dropped"; the crate hands it out, so it is told.
-use Rattle.refusal.specs.Words.{ℕ, _+_}
-use Rattle.refusal.specs.Answers.{Answer, accepted, refused}
-use Rattle.wire.specs.declared.view.View.{View}
-use Rattle.message.specs.declared.keyexchange.TlsClientKeyExchangeContents.{TlsClientKeyExchangeContents}
-use Rattle.message.specs.declared.keyexchange.TlsClientKeyExchangeContents.the-variants.{Dh, Ecdh, Unknown}
-use Rattle.message.specs.declared.handshake.TlsMessageHandshake.{TlsMessageHandshake}
+-- The answer of a reader of messages, and the place in the body from which on its reader leaves the bytes over. Document 01: "What a body
+-- parser leaves over is dropped"; the crate hands it out, so it is told.
+use Rattle.refusal.specs.{ℕ, _+_, Answer, accepted, refused}
+use Rattle.wire.specs.{View}
+use Rattle.message.specs.declared.{handshake.MessageAnswer.MessageAnswer, handshake.TlsMessageHandshake.TlsMessageHandshake, keyexchange.TlsClientKeyExchangeContents.TlsClientKeyExchangeContents}
 use Rattle.message.specs.declared.handshake.TlsMessageHandshake.the-variants.{HelloRequest, ClientHello, ServerHello, ServerHelloV13Draft18, NewSessionTicket, EndOfEarlyData, HelloRetryRequest, Certificate, ServerKeyExchange, CertificateRequest, ServerDone, CertificateVerify, ClientKeyExchange, Finished, CertificateStatus, NextProtocol, KeyUpdate}
-use Rattle.message.specs.declared.handshake.MessageAnswer.{MessageAnswer}
-use Rattle.message.specs.declared.handshake.MessageAnswer.the-variants.{Refused, Got}
+use Rattle.message.specs.declared.keyexchange.TlsClientKeyExchangeContents.the-variants.{Dh, Ecdh, Unknown}
 
--- as an `Answer`, which has the paper's number and the values
 abbrev pub messageSays : MessageAnswer → Answer TlsMessageHandshake
-messageSays (Refused r) = refused r
-messageSays (Got m) = accepted m
+messageSays (MessageAnswer.Refused r) = refused r
+messageSays (MessageAnswer.Got m) = accepted m
 
 abbrev pub pastView : View → ℕ
 pastView v = v .start + v .len

@@ -1,16 +1,13 @@
 -- What an export answers. The numbers of a value are put into the lent array as a text is into an output (`wire/specs/Puts.antt`): the
 -- answer is the paper's number, 0 where all of them are in; a refusal, NoRoom among them, changes nothing.
-use Rattle.refusal.specs.Words.{ℕ, List, [], _∷_, _++_}
-use Rattle.refusal.specs.Answers.{Answer, accepted, refused, then, numberIn}
-use Rattle.wire.specs.Puts.{room}
-use Rattle.envelope.specs.Opening.{Met}
-use Rattle.record.specs.declared.TlsRecordHeader.{TlsRecordHeader}
-use Rattle.record.specs.declared.TlsRawRecord.{TlsRawRecord}
-use Rattle.plaintext.specs.declared.TlsPlaintext.{TlsPlaintext}
-use Rattle.plaintext.specs.declared.TlsPlaintextOpened.{TlsPlaintextOpened}
-use Rattle.tell.specs.Messages.{messageNumbers, partNumbers}
-use Rattle.hear.specs.Heard.{heard}
+use Rattle.refusal.specs.{ℕ, List, [], _∷_, _++_, Answer, accepted, refused, then, numberIn}
+use Rattle.wire.specs.{room}
 use Rattle.genmessage.specs.Messages.{handshakeText}
+use Rattle.envelope.specs.{Met}
+use Rattle.record.specs.{TlsRawRecord, TlsRecordHeader}
+use Rattle.plaintext.specs.{TlsPlaintext, TlsPlaintextOpened}
+use Rattle.tell.specs.Messages.{messageNumbers, partNumbers}
+use Rattle.hear.specs.{heard}
 
 -- the paper's number of putting a text in at the front
 abbrev pub answered : Answer (List ℕ) → List ℕ → ℕ
@@ -24,7 +21,7 @@ countOr n (refused r) = n
 abbrev pub headerNumbers : TlsRecordHeader → List ℕ
 headerNumbers h = h .«record_type» ∷ h .version ∷ h .len ∷ []
 
--- of an encrypted record too
+-- an encrypted record is told by the same numbers, its blob for the data
 abbrev pub rawNumbers : TlsRawRecord → List ℕ
 rawNumbers x = headerNumbers (x .hdr) ++ (partNumbers (x .«data») ++ (x .next ∷ []))
 

@@ -1,24 +1,17 @@
 -- The plaintext record: document 01, "Records".
-use Rattle.refusal.specs.Words.{ℕ, _||_, List, length, eqb, ltb}
-use Rattle.refusal.specs.Answers.{Answer, accepted, refused, then}
-use Rattle.refusal.specs.Refusals.{numberOf, refusal, inside}
-use Rattle.refusal.specs.declared.Reason.the-variants.{Complete, Switch, Elsewhere}
-use Rattle.refusal.specs.declared.Refusal.{Refusal}
-use Rattle.wire.specs.Parts.{pick, partOf}
-use Rattle.grammar.specs.Forms.{reading}
-use Rattle.envelope.specs.Opening.{metAt}
-use Rattle.record.specs.Records.{raw}
-use Rattle.walk.specs.Walks.{messages, dropped}
-use Rattle.record.specs.declared.TlsRawRecord.{TlsRawRecord}
-use Rattle.plaintext.specs.declared.TlsPlaintext.{TlsPlaintext}
-use Rattle.plaintext.specs.declared.PlaintextAnswer.{PlaintextAnswer}
-use Rattle.plaintext.specs.declared.TlsPlaintextOpened.{TlsPlaintextOpened}
-use Rattle.plaintext.specs.declared.OpenedAnswer.{OpenedAnswer}
+use Rattle.refusal.specs.{ℕ, _||_, List, length, eqb, ltb, numberOf, refusal, inside, Answer, accepted, refused, then, Complete, Switch, Elsewhere, Refusal, giving, Incomplete}
+use Rattle.wire.specs.{pick, partOf}
+use Rattle.grammar.specs.{reading}
+use Rattle.envelope.specs.{metAt}
+use Rattle.walk.specs.{messages, dropped}
+use Rattle.record.specs.{raw, TlsRawRecord}
+use Rattle.plaintext.specs.declared.{OpenedAnswer.OpenedAnswer, PlaintextAnswer.PlaintextAnswer, TlsPlaintext.TlsPlaintext, TlsPlaintextOpened.TlsPlaintextOpened}
 
 -- "Incomplete from the first message becomes Complete, its other refusals stay", in content that begins at a place
 abbrev pub firstRefusal : ℕ → Refusal → Refusal
-firstRefusal at r = pick (eqb (numberOf (r .reason)) 1) (refusal Complete at 0) (inside at r)
+firstRefusal at r = pick (eqb (numberOf (r .reason)) (numberOf Incomplete)) (refusal Complete at 0) (inside at r)
 
+-- the answer of the first message, as the record's
 abbrev pub asFirst : {A : Type 0} → ℕ → Answer A → Answer A
 asFirst at (accepted x) = accepted x
 asFirst at (refused r) = refused (firstRefusal at r)
@@ -27,11 +20,12 @@ asFirst at (refused r) = refused (firstRefusal at r)
 unfoldable pub plainRecord : TlsRawRecord → List ℕ → TlsPlaintext
 plainRecord r content = record { hdr = r .hdr; msg = r .«data»; count = length (messages content); dropped = dropped content; next = r .next }
 
--- "A handshake record must open at least one message": the record with its first message
+-- "A handshake record must open at least one message": the record with its first message. The head's places count from the content's first
+-- byte, the message's from its body's
 unfoldable pub handshakes : TlsRawRecord → List ℕ → Answer TlsPlaintextOpened
 handshakes r content =
-    then (asFirst (r .«data» .start) (metAt content 0)) (λ x.
-    accepted (record { «record» = plainRecord r content; head = x .head; message = x .says }))
+    giving (λ x. record { «record» = plainRecord r content; head = x .head; message = x .says })
+    (asFirst (r .«data» .start) (metAt content 0))
 
 -- "Types outside 0x14 to 0x18 are Switch"; 0x14, 0x15, 0x17 and 0x18 are Elsewhere
 abbrev pub otherType : ℕ → Refusal
@@ -45,9 +39,8 @@ openedFirst s =
 
 -- the record alone
 unfoldable pub plaintext : List ℕ → Answer TlsPlaintext
-plaintext s = then (openedFirst s) (λ x. accepted (x .«record»))
+plaintext s = giving (λ x. x .«record») (openedFirst s)
 
--- as an `Answer`, which has the paper's number and the values
 abbrev pub plaintextSays : PlaintextAnswer → Answer TlsPlaintext
 plaintextSays (PlaintextAnswer.Refused r) = refused r
 plaintextSays (PlaintextAnswer.Got x) = accepted x

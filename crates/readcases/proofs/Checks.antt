@@ -216,11 +216,6 @@ pub number-pick : {A : Type 0} (t : Bool) (x y : Answer A) → numberIn (pick t 
 number-pick true x y = refl
 number-pick false x y = refl
 
--- a check made twice
-pub twice : (t : Bool) (x y : ℕ) → pick t x (pick t x y) ≡ pick t x y
-twice true x y = refl
-twice false x y = refl
-
 -- fewer bytes asked for before more, with the same refusal
 pub fewer-first : (l a b x y : ℕ) → a ≤ b → pick (ltb l a) x (pick (ltb l b) x y) ≡ pick (ltb l b) x y
 fewer-first l a b x y h = go (ltb l a) refl

@@ -1,4 +1,4 @@
 pub mod Checks
 pub mod Readers
 pub mod Only
-pub mod Witnesses
+pub mod Table

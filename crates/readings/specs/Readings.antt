@@ -1,33 +1,18 @@
 -- Document 01, "Readings to keep on the bench", all eighteen rows in one table; and readings of our own in a second one: a message of each
--- type, a ServerHello of each version, a record of each type. Bytes are written by their number: `03 000001` is `bytesOf 4 0x03_000001`.
-use Rattle.refusal.specs.Words.{ℕ, _≡_, List, [], _∷_, _++_, Option, none, some, replicate}
-use Rattle.refusal.specs.Answers.{Answer, accepted, then, numberIn, valuesIn}
-use Rattle.refusal.specs.Refusals.{numberOf}
-use Rattle.refusal.specs.declared.Reason.{Reason}
-use Rattle.refusal.specs.declared.Reason.the-variants.{Incomplete, Complete, Verify, LengthValue, Tag, Switch, TooLarge, Elsewhere, NoSuch}
-use Rattle.wire.specs.Parts.{partOf}
-use Rattle.wire.specs.Numbers.{bytesOf}
-use Rattle.wire.specs.declared.view.OptView.{OptView}
-use Rattle.wire.specs.declared.view.OptView.the-variants.{Absent, Present}
-use Rattle.wire.specs.declared.view.View.{View}
-use Rattle.field.specs.Fields.{sized}
-use Rattle.grammar.specs.Forms.{reading, byVersion}
-use Rattle.list.specs.Items.{items, place}
-use Rattle.list.specs.Listing.{bytesHanded}
-use Rattle.client.specs.Client.{client}
-use Rattle.client.specs.declared.TlsClientHelloContents.{TlsClientHelloContents}
-use Rattle.server.specs.Server.{serverVersions}
-use Rattle.server.specs.declared.tlsv12.TlsServerHelloContents.{TlsServerHelloContents}
-use Rattle.certs.specs.Certs.{certificate, certificateRequest}
-use Rattle.certs.specs.declared.request.TlsCertificateRequestContents.{TlsCertificateRequestContents}
-use Rattle.text.specs.Hellos.{helloText}
-use Rattle.text.specs.Messages.{headText, messageText}
-use Rattle.message.specs.declared.handshake.TlsMessageHandshake.{TlsMessageHandshake}
-use Rattle.message.specs.declared.keyexchange.TlsClientKeyExchangeContents.the-variants.{Unknown}
-use Rattle.message.specs.declared.handshake.TlsMessageHandshake.the-variants.{HelloRequest, ClientHello, ServerHello, ServerHelloV13Draft18, NewSessionTicket, EndOfEarlyData, HelloRetryRequest, Certificate, ServerKeyExchange, CertificateRequest, ServerDone, CertificateVerify, ClientKeyExchange, Finished, CertificateStatus, NextProtocol, KeyUpdate}
-use Rattle.envelope.specs.Opening.{message}
-use Rattle.walk.specs.Walks.{messages}
-use Rattle.plaintext.specs.Plaintext.{plaintext}
+-- type but 0x00, which row 13 has, a ServerHello of each version, a record of each type. Bytes are written by their number: `03 000001` is `bytesOf 4 0x03_000001`.
+use Rattle.refusal.specs.{ℕ, _≡_, List, [], _∷_, _++_, Option, none, some, replicate, numberOf, Answer, accepted, then, numberIn, valuesIn, Reason, Incomplete, Complete, Verify, LengthValue, Tag, Switch, TooLarge, Elsewhere, NoSuch}
+use Rattle.wire.specs.{partOf, bytesOf, OptView, Absent, Present, View}
+use Rattle.field.specs.{sized}
+use Rattle.grammar.specs.{reading, byVersion}
+use Rattle.list.specs.{items, place, bytesHanded}
+use Rattle.text.specs.{helloText, headText, messageText}
+use Rattle.client.specs.{client, TlsClientHelloContents}
+use Rattle.server.specs.{serverVersions, TlsServerHelloContents}
+use Rattle.certs.specs.{certificate, certificateRequest, TlsCertificateRequestContents}
+use Rattle.message.specs.{TlsMessageHandshake, HelloRequest, ClientHello, ServerHello, ServerHelloV13Draft18, NewSessionTicket, EndOfEarlyData, HelloRetryRequest, Certificate, ServerKeyExchange, CertificateRequest, ServerDone, CertificateVerify, ClientKeyExchange, Finished, CertificateStatus, NextProtocol, KeyUpdate, Unknown}
+use Rattle.envelope.specs.{message}
+use Rattle.walk.specs.{messages}
+use Rattle.plaintext.specs.{plaintext}
 
 -- a row: its number in the paper, 0 for one of our own; the function, the input, the number of the answer and the values
 pub record Row : Type 1 where
@@ -124,7 +109,7 @@ S version = bytesOf 2 version ++ (replicate 32 0 ++ bytesOf 6 0x00_002f_00_0000)
 abbrev pub plainServer : ℕ → OptView → ℕ → TlsServerHelloContents
 plainServer v ext tail = record { version = v; random = at 2 32; «session_id» = Absent; cipher = 0x002f; compression = 0x00; ext = ext; tail = tail }
 
--- our own: each version and the id's 32 from below; each type, its parts of lengths that differ; each record type
+-- our own: an id of exactly 32 and each version; each type, its parts of lengths that differ; each record type
 unfoldable pub ownRows : List Row
 ownRows =
     accept 0 (reading client) (from0303Z (bytesOf 1 0x20 ++ (replicate 32 0 ++ bytesOf 8 0x0004_002f_0035_01_00)))

@@ -1,30 +1,17 @@
 -- Records that are not opened: document 01, "Records": "Type 1, version 2, length 2. Order: header Incomplete, TooLarge, body Incomplete";
 -- RFC 5246 6.2.1. The rule of the length is `Fragment` of `field/specs/Fields.antt`.
-use Rattle.refusal.specs.Words.{ℕ, List, [], _∷_, none}
-use Rattle.refusal.specs.Answers.{Answer, accepted, refused, then}
-use Rattle.wire.specs.Numbers.{numberAt}
-use Rattle.wire.specs.declared.view.OptView.the-variants.{Absent}
-use Rattle.field.specs.Fields.{Field, fixed, counted, ruleOf}
-use Rattle.field.specs.declared.Kind.the-variants.{Fragment}
-use Rattle.grammar.specs.Grammars.{asView, asNumber}
-use Rattle.grammar.specs.Forms.{Form, reading}
-use Rattle.record.specs.declared.TlsRecordHeader.{TlsRecordHeader}
-use Rattle.record.specs.declared.RecordHeaderAnswer.{RecordHeaderAnswer}
-use Rattle.record.specs.declared.TlsRawRecord.{TlsRawRecord}
-use Rattle.record.specs.declared.RawRecordAnswer.{RawRecordAnswer}
-use Rattle.record.specs.declared.TlsEncrypted.{TlsEncrypted}
-use Rattle.record.specs.declared.EncryptedAnswer.{EncryptedAnswer}
-use Rattle.record.specs.declared.RecordHeaderAnswer.the-variants as header-answer
-use Rattle.record.specs.declared.RawRecordAnswer.the-variants as raw-answer
-use Rattle.record.specs.declared.EncryptedAnswer.the-variants as encrypted-answer
+use Rattle.refusal.specs.{ℕ, List, [], _∷_, none, Answer, accepted, refused, then, giving}
+use Rattle.wire.specs.{numberAt, Absent}
+use Rattle.field.specs.{Field, fixed, counted, ruleOf, Fragment}
+use Rattle.grammar.specs.{asView, asNumber, Form, reading}
+use Rattle.record.specs.declared.{EncryptedAnswer.EncryptedAnswer, RawRecordAnswer.RawRecordAnswer, RecordHeaderAnswer.RecordHeaderAnswer, TlsEncrypted.TlsEncrypted, TlsRawRecord.TlsRawRecord, TlsRecordHeader.TlsRecordHeader}
 
--- type 1, version 2, length 2
+-- type 1, version 2, length 2. The length is told as it stands: TooLarge is given by the readers of a record
 unfoldable pub header : List ℕ → Answer TlsRecordHeader
 header s =
     then (numberAt 1 s 0) (λ t.
     then (numberAt 2 s (t .next)) (λ v.
-    then (numberAt 2 s (v .next)) (λ n.
-    accepted (record { «record_type» = t .value; version = v .value; len = n .value }))))
+    giving (λ n. record { «record_type» = t .value; version = v .value; len = n .value }) (numberAt 2 s (v .next))))
 
 -- length 2 and content
 abbrev pub fragment : Field
@@ -41,17 +28,16 @@ raw = record {
 }
 
 unfoldable pub encrypted : List ℕ → Answer TlsEncrypted
-encrypted s = then (reading raw s) (λ r. accepted (record { hdr = r .hdr; msg = record { blob = r .«data» }; next = r .next }))
+encrypted s = giving (λ r. record { hdr = r .hdr; msg = record { blob = r .«data» }; next = r .next }) (reading raw s)
 
--- as an `Answer`, which has the paper's number and the values
 abbrev pub headerSays : RecordHeaderAnswer → Answer TlsRecordHeader
-headerSays (header-answer.Refused r) = refused r
-headerSays (header-answer.Got h) = accepted h
+headerSays (RecordHeaderAnswer.Refused r) = refused r
+headerSays (RecordHeaderAnswer.Got h) = accepted h
 
 abbrev pub rawSays : RawRecordAnswer → Answer TlsRawRecord
-rawSays (raw-answer.Refused r) = refused r
-rawSays (raw-answer.Got x) = accepted x
+rawSays (RawRecordAnswer.Refused r) = refused r
+rawSays (RawRecordAnswer.Got x) = accepted x
 
 abbrev pub encryptedSays : EncryptedAnswer → Answer TlsEncrypted
-encryptedSays (encrypted-answer.Refused r) = refused r
-encryptedSays (encrypted-answer.Got x) = accepted x
+encryptedSays (EncryptedAnswer.Refused r) = refused r
+encryptedSays (EncryptedAnswer.Got x) = accepted x

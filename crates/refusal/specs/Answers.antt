@@ -31,7 +31,7 @@ abbrev pub then : {A B : Type 0} → Answer A → (A → Answer B) → Answer B
 then (accepted a) k = k a
 then (refused r) k = refused r
 
--- an answer whose value is handed out as what is made of it
+-- the same answer with its value made into another; a refusal stays
 abbrev pub giving : {A B : Type 0} → (A → B) → Answer A → Answer B
 giving make a = then a (λ x. accepted (make x))
 

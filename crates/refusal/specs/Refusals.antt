@@ -1,8 +1,7 @@
 -- Document 01, "What the tap says when it says no": the table's numbers, and what a refusal is made from.
 use Rattle.refusal.specs.Words.{ℕ, _≡_}
-use Rattle.refusal.specs.declared.Reason.{Reason}
+use Rattle.refusal.specs.declared.{Reason.Reason, Refusal.Refusal}
 use Rattle.refusal.specs.declared.Reason.the-variants.{Incomplete, Complete, Verify, LengthValue, Tag, Switch, TooLarge, BadLength, NoRoom, Elsewhere, NoSuch, NotYetImplemented}
-use Rattle.refusal.specs.declared.Refusal.{Refusal}
 
 abbrev pub numberOf : Reason → ℕ
 numberOf Incomplete = 1
@@ -23,15 +22,16 @@ pub record NumbersApart : Type 0 where
   pub apart : (r t : Reason) → numberOf r ≡ numberOf t → r ≡ t
   pub notZero : (r : Reason) → 0 ≡ numberOf r → ⊥
 
--- the refusal of an item that begins at a place and lacks so many bytes: it carries its number alone, so place and shortfall are dropped
+-- the refusal of an item that begins at a place and lacks so many bytes. "A refusal carries its number alone": place and shortfall are
+-- dropped, and whatever numbers stand there, it is the same refusal
 unfoldable pub refusal : Reason → ℕ → ℕ → Refusal
 refusal why at lack = record { reason = why }
 
--- a refusal to write: no place in bytes that were read is meant
+-- a refusal of no byte that was lent to be read: every refusal to write, and that of a type handed over apart from its body
 unfoldable pub unplaced : Reason → Refusal
 unplaced why = record { reason = why }
 
 -- the refusal of what lies inside a part that begins at a place and is whole: its item begins so much later in the bytes lent, and no
--- further byte helps; it carries its number alone, so it stays as it is
+-- further byte helps. It carries its number alone, so it stays as it is
 unfoldable pub inside : ℕ → Refusal → Refusal
 inside at r = r

@@ -1,13 +1,8 @@
 -- The ServerHello, and that of TLS 1.3 draft 18: document 01, "The grammar of the three hellos"; RFC 5246 7.4.1.3,
 -- draft-ietf-tls-tls13-18 4.1.3.
-use Rattle.refusal.specs.Words.{[], _∷_, Bool, true, false}
-use Rattle.refusal.specs.Answers.{Answer, accepted, refused}
-use Rattle.grammar.specs.Hellos.{serverHello, serverHelloDraft18}
-use Rattle.grammar.specs.Forms.{Form, Listing}
-use Rattle.server.specs.declared.tlsv12.TlsServerHelloContents.{TlsServerHelloContents}
-use Rattle.server.specs.declared.tlsv12.ServerHelloAnswer.{ServerHelloAnswer}
-use Rattle.server.specs.declared.tlsv13draft18.TlsServerHelloV13Draft18Contents.{TlsServerHelloV13Draft18Contents}
-use Rattle.server.specs.declared.tlsv13draft18.Draft18Answer.{Draft18Answer}
+use Rattle.refusal.specs.{[], _∷_, Bool, true, false, Answer, accepted, refused}
+use Rattle.grammar.specs.{serverHello, serverHelloDraft18, Form, Listing}
+use Rattle.server.specs.declared.{tlsv12.ServerHelloAnswer.ServerHelloAnswer, tlsv12.TlsServerHelloContents.TlsServerHelloContents, tlsv13draft18.Draft18Answer.Draft18Answer, tlsv13draft18.TlsServerHelloV13Draft18Contents.TlsServerHelloV13Draft18Contents}
 
 abbrev pub server : Bool → Form TlsServerHelloContents
 server hasExt = record {
@@ -22,7 +17,6 @@ server hasExt = record {
 abbrev pub serverVersions : Listing TlsServerHelloContents
 serverVersions = (0x0303, server true) ∷ (0x0302, server true) ∷ (0x0301, server true) ∷ (0x0300, server false) ∷ []
 
--- as an `Answer`, which has the paper's number and the values
 abbrev pub serverSays : ServerHelloAnswer → Answer TlsServerHelloContents
 serverSays (ServerHelloAnswer.Refused r) = refused r
 serverSays (ServerHelloAnswer.Got c) = accepted c
@@ -36,7 +30,6 @@ draft18 = record {
   tail = λ c. c .tail;
 }
 
--- as an `Answer`, which has the paper's number and the values
 abbrev pub draft18Says : Draft18Answer → Answer TlsServerHelloV13Draft18Contents
 draft18Says (Draft18Answer.Refused r) = refused r
 draft18Says (Draft18Answer.Got c) = accepted c

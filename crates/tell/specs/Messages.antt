@@ -1,13 +1,8 @@
 -- A message as numbers: the number of its kind, then its contents in the order of their fields. A part is where it begins and how long it
 -- is; a part that may be missing has a 1 before that, or is three times 0.
-use Rattle.refusal.specs.Words.{ℕ, List, [], _∷_, _++_}
-use Rattle.wire.specs.declared.view.View.{View}
-use Rattle.wire.specs.declared.view.OptView.{OptView}
-use Rattle.wire.specs.declared.view.OptView.the-variants.{Absent, Present}
-use Rattle.message.specs.declared.keyexchange.TlsClientKeyExchangeContents.{TlsClientKeyExchangeContents}
-use Rattle.message.specs.declared.keyexchange.TlsClientKeyExchangeContents.the-variants.{Dh, Ecdh, Unknown}
-use Rattle.message.specs.declared.handshake.TlsMessageHandshake.{TlsMessageHandshake}
-use Rattle.message.specs.declared.handshake.TlsMessageHandshake.the-variants.{HelloRequest, ClientHello, ServerHello, ServerHelloV13Draft18, NewSessionTicket, EndOfEarlyData, HelloRetryRequest, Certificate, ServerKeyExchange, CertificateRequest, ServerDone, CertificateVerify, ClientKeyExchange, Finished, CertificateStatus, NextProtocol, KeyUpdate}
+use Rattle.refusal.specs.{ℕ, List, [], _∷_, _++_}
+use Rattle.wire.specs.{OptView, Absent, Present, View}
+use Rattle.message.specs.{TlsMessageHandshake, HelloRequest, ClientHello, ServerHello, ServerHelloV13Draft18, NewSessionTicket, EndOfEarlyData, HelloRetryRequest, Certificate, ServerKeyExchange, CertificateRequest, ServerDone, CertificateVerify, ClientKeyExchange, Finished, CertificateStatus, NextProtocol, KeyUpdate, TlsClientKeyExchangeContents, Dh, Ecdh, Unknown}
 
 abbrev pub partNumbers : View → List ℕ
 partNumbers v = v .start ∷ v .len ∷ []

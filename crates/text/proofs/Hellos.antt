@@ -2,7 +2,7 @@
 use Prim.Native.Nat.{ℕ, _<_}
 use mathlib.Core.Path.{_≡_, refl, ap, sym, _∙_}
 use mathlib.Core.List.{List, [], _∷_, _++_, append-assoc}
-use mathlib.Core.Bool.{Bool, true, false, not}
+use mathlib.Core.Bool.{Bool, true, false, not, _&&_}
 use borrow.Author.Tests.{not-true}
 use lib.ListN.{length}
 use Rattle.refusal.specs.Answers.{accepted, refused}
@@ -13,7 +13,7 @@ use Rattle.wire.specs.Parts.{optPartOf}
 use Rattle.wire.proofs.Puts.{Came}
 use Rattle.field.specs.Fields.{Field}
 use Rattle.field.specs.Standing.{fieldBytes, Obeys}
-use Rattle.field.specs.Texts.{both, allowed}
+use Rattle.field.specs.Texts.{allowed}
 use Rattle.field.proofs.Texts.{both-true, obeys}
 use Rattle.grammar.specs.Grammars.{How, asOpt, Row, gather}
 use Rattle.grammar.specs.Splits.{AllObey, join}
@@ -28,7 +28,7 @@ stands f m s o e = obeys f (named m s o) (both-true (lies m s o) (allowed f (len
 
 -- each part may stand in its field, and then a last one
 abbrev allMay : (rs : List Row) → List ℕ → Outs rs → Bool → Bool
-allMay rs s os z = gather (λ (f, m) o rest. both (mayStand f m s o) rest) z rs os
+allMay rs s os z = gather (λ (f, m) o rest. mayStand f m s o && rest) z rs os
 
 all-stand : (rs : List Row) (s : List ℕ) (os : Outs rs) (z : Bool) → allMay rs s os z ≡ true → AllObey rs (allNamed rs s os) × (z ≡ true)
 all-stand [] s os z e = (tt, e)

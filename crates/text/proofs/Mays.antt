@@ -3,12 +3,12 @@
 use Prim.Native.Nat.{ℕ}
 use mathlib.Core.Path.{_≡_, refl, ap, sym, _∙_}
 use mathlib.Core.List.{List, [], _∷_}
-use mathlib.Core.Bool.{Bool, true, false, not}
+use mathlib.Core.Bool.{Bool, true, false, not, _&&_}
 use borrow.Author.Tests.{not-true, not-false}
 use lib.ListN.{drop}
 use Rattle.wire.specs.Parts.{pick}
 use Rattle.wire.proofs.Numbers.{length-bytes}
-use Rattle.field.specs.Texts.{both, allowed}
+use Rattle.field.specs.Texts.{allowed}
 use Rattle.grammar.specs.Grammars.{asView, asOpt, asNumber, Row, gather}
 use Rattle.grammar.specs.Hellos.{extensions}
 use Rattle.grammar.specs.Forms.{Form, Outs}
@@ -17,7 +17,7 @@ use Rattle.text.specs.Hellos.{mayStand, mayWrite}
 -- all of some tests, and then a last one
 abbrev all : List Bool → Bool → Bool
 all [] z = z
-all (b ∷ bs) z = both b (all bs z)
+all (b ∷ bs) z = b && all bs z
 
 -- whether each part may stand; a number as wide as its field always may, and is not asked
 abbrev parts : (rs : List Row) → List ℕ → Outs rs → List Bool
@@ -27,14 +27,14 @@ parts ((f, asOpt empty) ∷ rs) s (o, os) = mayStand f (asOpt empty) s o ∷ par
 parts ((f, asNumber w) ∷ rs) s (o, os) = pick (allowed f w) (parts rs s os) (false ∷ [])
 
 -- one number more
-number : (a b z : Bool) (bs : List Bool) → b ≡ all bs z → both a b ≡ all (pick a bs (false ∷ [])) z
+number : (a b z : Bool) (bs : List Bool) → b ≡ all bs z → (a && b) ≡ all (pick a bs (false ∷ [])) z
 number true b z bs e = e
 number false b z bs e = refl
 
-parts-all : (rs : List Row) (s : List ℕ) (os : Outs rs) (z : Bool) → gather (λ (f, m) o rest. both (mayStand f m s o) rest) z rs os ≡ all (parts rs s os) z
+parts-all : (rs : List Row) (s : List ℕ) (os : Outs rs) (z : Bool) → gather (λ (f, m) o rest. mayStand f m s o && rest) z rs os ≡ all (parts rs s os) z
 parts-all [] s os z = refl
-parts-all ((f, asView) ∷ rs) s (o, os) z = ap (both (mayStand f asView s o)) (parts-all rs s os z)
-parts-all ((f, asOpt empty) ∷ rs) s (o, os) z = ap (both (mayStand f (asOpt empty) s o)) (parts-all rs s os z)
+parts-all ((f, asView) ∷ rs) s (o, os) z = ap (_&&_ (mayStand f asView s o)) (parts-all rs s os z)
+parts-all ((f, asOpt empty) ∷ rs) s (o, os) z = ap (_&&_ (mayStand f (asOpt empty) s o)) (parts-all rs s os z)
 parts-all ((f, asNumber w) ∷ rs) s (o, os) z = rw (length-bytes w o) (number (allowed f w) _ z (parts rs s os) (parts-all rs s os z))
 
 -- what is left to be asked decides

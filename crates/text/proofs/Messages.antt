@@ -3,7 +3,7 @@
 use Prim.Native.Nat.{ℕ, _+_, _-_, _^_, _<_, _≤_}
 use mathlib.Core.Path.{_≡_, refl, sym, ap, _∙_}
 use mathlib.Core.List.{List, [], _++_, append-assoc, append-nil}
-use mathlib.Core.Bool.{Bool, true, false}
+use mathlib.Core.Bool.{Bool, true, false, _&&_}
 use native.Mathlib.Omega.{arith}
 use native.Mathlib.Nat.{zero-add}
 use borrow.Author.Tests.{ltb-true}
@@ -23,7 +23,7 @@ use Rattle.wire.proofs.Parts.{room-fits}
 use Rattle.wire.proofs.Numbers.{length-bytes}
 use Rattle.wire.proofs.Puts.{Came, text-refused, text-in, text-out, written-in, number-accepted, length-put}
 use Rattle.field.specs.Fields.{sized}
-use Rattle.field.specs.Texts.{both, fieldText}
+use Rattle.field.specs.Texts.{fieldText}
 use Rattle.text.specs.Messages.{headText, messageText}
 use Rattle.text.proofs.Fields.{begin, next, end}
 
@@ -78,7 +78,7 @@ same-text kind (accepted b) = go (ltb (length b) (256 ^ 3))
   where
     go : (t : Bool)
         → then (then (pick t (accepted (bytesOf 3 (length b))) (refused (unplaced BadLength))) (λ n. accepted (bytesOf 1 kind ++ n))) (λ h. accepted (h ++ b))
-        ≡ then (pick (both t true) (accepted (bytesOf 3 (length b) ++ b)) (refused (unplaced BadLength))) (λ n. accepted (bytesOf 1 kind ++ n))
+        ≡ then (pick (t && true) (accepted (bytesOf 3 (length b) ++ b)) (refused (unplaced BadLength))) (λ n. accepted (bytesOf 1 kind ++ n))
     go true = ap accepted (append-assoc (bytesOf 1 kind) (bytesOf 3 (length b)) b)
     go false = refl
 

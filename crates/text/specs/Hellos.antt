@@ -2,38 +2,25 @@
 -- the fields by which the hello is read, joined in order, and then the extensions: "absent extensions write 00 00". Its limits (random
 -- exactly 32, id at most 32, ciphers even and at most 65,534, methods at most 255, extensions at most 65,535) are the rules of the fields,
 -- `grammar/specs/Hellos.antt`.
-use Rattle.refusal.specs.Words.{ℕ, _+_, List, _++_, Bool, true, false, length, leb}
-use Rattle.refusal.specs.Answers.{Answer, accepted, refused}
-use Rattle.refusal.specs.Refusals.{unplaced}
-use Rattle.refusal.specs.declared.Reason.the-variants.{BadLength}
-use Rattle.wire.specs.Parts.{pick, optPartOf}
-use Rattle.wire.specs.declared.view.View.{View}
-use Rattle.wire.specs.declared.view.OptView.the-variants.{Absent, Present}
-use Rattle.field.specs.Fields.{Field}
-use Rattle.field.specs.Standing.{fieldBytes}
-use Rattle.field.specs.Texts.{both, allowed}
-use Rattle.grammar.specs.Grammars.{How, asView, asOpt, asNumber, gather}
-use Rattle.grammar.specs.Hellos.{extensions}
-use Rattle.grammar.specs.Forms.{Form, Out, named}
+use Rattle.refusal.specs.{ℕ, List, _++_, Bool, _&&_, true, false, length, unplaced, Answer, accepted, refused, BadLength}
+use Rattle.wire.specs.{pick, optPartOf, Absent, Present, liesIn}
+use Rattle.field.specs.{Field, fieldBytes, allowed}
+use Rattle.grammar.specs.{How, asView, asOpt, asNumber, gather, extensions, Form, Out, named}
 
--- the view lies within the bytes
-abbrev pub inside : List ℕ → View → Bool
-inside s v = leb (v .start + v .len) (length s)
-
--- what was handed out of a field lies within the bytes lent with the value
+-- what was handed out of a field lies within the bytes lent with the value; in writing it is all one what `asOpt` makes of an empty part
 abbrev pub lies : (m : How) → List ℕ → Out m → Bool
-lies asView s v = inside s v
+lies asView s v = liesIn s v
 lies (asOpt empty) s Absent = true
-lies (asOpt empty) s (Present v) = inside s v
+lies (asOpt empty) s (Present v) = liesIn s v
 lies (asNumber w) s n = true
 
 -- and may be written: the part that it names may stand in the field
 abbrev pub mayStand : Field → (m : How) → List ℕ → Out m → Bool
-mayStand f m s o = both (lies m s o) (allowed f (length (named m s o)))
+mayStand f m s o = lies m s o && allowed f (length (named m s o))
 
 -- a hello may be written where each of its parts may, and its extensions
 unfoldable pub mayWrite : {C : Type 0} → Form C → List ℕ → C → Bool
-mayWrite k s c = gather (λ (f, m) o rest. both (mayStand f m s o) rest) (mayStand extensions (asOpt false) s (k .block c)) (k .grammar .rows) (k .handed c)
+mayWrite k s c = gather (λ (f, m) o rest. mayStand f m s o && rest) (mayStand extensions (asOpt false) s (k .block c)) (k .grammar .rows) (k .handed c)
 
 -- the fields joined, and the extensions
 unfoldable pub helloBytes : {C : Type 0} → Form C → List ℕ → C → List ℕ

@@ -4,8 +4,9 @@ ghost use mathlib.Core.Path.{_≡_};
 ghost use Rattle.field.specs.Fields.{Field, ruleOf};
 ghost use Rattle.grammar.specs.Grammars.{How};
 ghost use Rattle.wire.specs.Numbers.{bytesIn};
+ghost use Rattle.wire.specs.Parts.{liesIn};
 ghost use Rattle.wire.specs.Puts.{room, written, writeSays};
-ghost use Rattle.text.specs.Hellos.{inside, mayStand};
+ghost use Rattle.text.specs.Hellos.{mayStand};
 ghost use Rattle.text.specs.Messages.{headText};
 use field::Kind;
 use refusal::Reason;
@@ -17,7 +18,7 @@ use wire::view::View;
 
 // Whether a view lies within the bytes lent with it.
 pub fn lies_in(i: &[u8], v: View) -> bool
-    ensures { λ r. ⌜ r ≡ inside (now (i .entry)) v ⌝ }
+    ensures { λ r. ⌜ r ≡ liesIn (now (i .entry)) v ⌝ }
 {
     let start = v.start;
     let len = v.len;

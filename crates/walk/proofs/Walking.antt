@@ -5,7 +5,7 @@ use mathlib.Core.Logic.{_⊎_, inl, inr}
 use mathlib.Core.List.{List, [], _∷_}
 use native.Mathlib.Omega.{arith}
 use lib.ListN.{length}
-use Rattle.refusal.specs.Answers.{Answer, accepted, refused, then}
+use Rattle.refusal.specs.Answers.{Answer, accepted, refused, then, giving}
 use Rattle.refusal.specs.Refusals.{refusal}
 use Rattle.refusal.specs.declared.Reason.the-variants.{NoSuch}
 use Rattle.refusal.specs.declared.Refusal.{Refusal}
@@ -122,7 +122,7 @@ module _ (s : List ℕ) where
           let p : place k (messages s) ≡ refused (refusal NoSuch 0 0) = sym ih ∙ rw e in
           rw (moved-not s (walkAfter k s) e, e) (sym (none-after k (messages s) p))
 
-  meets : (k : ℕ) → nextMessage s (walkAfter k s) ≡ then (place k (messages s)) (λ x. accepted (x .says))
+  meets : (k : ℕ) → nextMessage s (walkAfter k s) ≡ giving (λ x. x .says) (place k (messages s))
   unfolding nextMessage
   meets k = rw (stands k)
 
@@ -144,7 +144,7 @@ module _ (s : List ℕ) where
   steps : length (messages s) * 4 ≤ length s
   steps = omega (arith, whole, four-each (messages s))
 
-  ends : (k : ℕ) → length s < k * 4 → nextMessage s (walkAfter k s) ≡ refused (refusal NoSuch 0 0)
+  ends : (k : ℕ) → length s < suc k * 4 → nextMessage s (walkAfter k s) ≡ refused (refusal NoSuch 0 0)
   ends k h = meets k ∙ rw (place-past k (messages s) (omega (arith, h, steps)))
 
 pub every-walk : (s : List ℕ) → Walking s

@@ -1,11 +1,7 @@
 -- What is shown of the walk over every content: `proofs/Walking.antt`.
-use Rattle.refusal.specs.Words.{ℕ, suc, _+_, _*_, _<_, _≤_, _≡_, List, [], _∷_, length}
-use Rattle.refusal.specs.Answers.{accepted, refused, then}
-use Rattle.refusal.specs.Refusals.{refusal}
-use Rattle.refusal.specs.declared.Reason.the-variants.{NoSuch}
-use Rattle.refusal.specs.declared.Refusal.{Refusal}
-use Rattle.list.specs.Items.{itemsFrom, place}
-use Rattle.envelope.specs.Opening.{Met, metAt}
+use Rattle.refusal.specs.{ℕ, suc, _+_, _*_, _<_, _≤_, _≡_, List, [], _∷_, length, refusal, accepted, refused, NoSuch, Refusal, giving}
+use Rattle.list.specs.{itemsFrom, place}
+use Rattle.envelope.specs.{Met, metAt}
 use Rattle.walk.specs.Walks.{messages, dropped, nextMessage, moved, walkAfter}
 use Rattle.walk.specs.declared.TlsRecordWalk.{TlsRecordWalk}
 
@@ -16,7 +12,7 @@ bytesOfAll (x ∷ xs) = 4 + x .head .body .len + bytesOfAll xs
 
 pub record Walking (content : List ℕ) : Type 0 where
   -- each call hands back the message at its place, and past the last one NoSuch
-  pub meets : (k : ℕ) → nextMessage content (walkAfter k content) ≡ then (place k (messages content)) (λ x. accepted (x .says))
+  pub meets : (k : ℕ) → nextMessage content (walkAfter k content) ≡ giving (λ x. x .says) (place k (messages content))
   -- and the walk moved on tells where that message's body lies and where the next begins
   pub tells : (k : ℕ) (x : Met) → place k (messages content) ≡ accepted x → walkAfter (suc k) content ≡ record { body = x .head .body; next = x .head .next }
   -- a walk that hands back no message says NoSuch and stays
@@ -27,4 +23,4 @@ pub record Walking (content : List ℕ) : Type 0 where
   -- the bound never ends them: by a larger one no more are found
   pub noneMore : (n : ℕ) → length content ≤ n → itemsFrom n (metAt content) (λ x. x .head .next) 0 ≡ messages content
   -- so that a walk over n bytes is at its end after n / 4 calls
-  pub ends : (k : ℕ) → length content < k * 4 → nextMessage content (walkAfter k content) ≡ refused (refusal NoSuch 0 0)
+  pub ends : (k : ℕ) → length content < suc k * 4 → nextMessage content (walkAfter k content) ≡ refused (refusal NoSuch 0 0)

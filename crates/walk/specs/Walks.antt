@@ -1,12 +1,10 @@
 -- The messages of a handshake record's content, and the walk over them. Document 01: "Later messages are taken until one is refused; the
 -- bytes from there on are dropped, and their number is told", and "The record walk hands back the next message and the walk moved on; past
 -- the last message it answers NoSuch and stays."
-use Rattle.refusal.specs.Words.{ℕ, zero, suc, _-_, _≡_, List, [], _∷_, length}
-use Rattle.refusal.specs.Answers.{Answer, accepted, refused, then}
-use Rattle.list.specs.Items.{itemsFrom, orNoSuch}
-use Rattle.message.specs.declared.handshake.TlsMessageHandshake.{TlsMessageHandshake}
-use Rattle.envelope.specs.Opening.{Met, byType, metAt}
-use Rattle.envelope.specs.declared.TlsMessageHead.{TlsMessageHead}
+use Rattle.refusal.specs.{ℕ, zero, suc, _-_, _≡_, List, [], _∷_, length, Answer, accepted, refused, giving}
+use Rattle.list.specs.{itemsFrom, orNoSuch}
+use Rattle.message.specs.{TlsMessageHandshake}
+use Rattle.envelope.specs.{Met, byType, metAt, TlsMessageHead}
 use Rattle.walk.specs.declared.TlsRecordWalk.{TlsRecordWalk}
 
 -- from a place on, until one is refused: each takes four bytes at least
@@ -26,7 +24,7 @@ dropped s = length s - pastAll (messages s) 0
 
 -- the head of the message that is met at a place
 unfoldable pub metHead : List ℕ → ℕ → Answer TlsMessageHead
-metHead s at = then (metAt s at) (λ x. accepted (x .head))
+metHead s at = giving (λ x. x .head) (metAt s at)
 
 -- a body of this type is opened whatever it holds
 abbrev pub OpensAny : ℕ → Type 0
@@ -38,7 +36,7 @@ start = record { body = record { start = 0; len = 0 }; next = 0 }
 
 -- the message that a walk hands back
 unfoldable pub nextMessage : List ℕ → TlsRecordWalk → Answer TlsMessageHandshake
-nextMessage s w = then (orNoSuch (metAt s (w .next))) (λ x. accepted (x .says))
+nextMessage s w = giving (λ x. x .says) (orNoSuch (metAt s (w .next)))
 
 abbrev pub onTo : TlsRecordWalk → Answer Met → TlsRecordWalk
 onTo w (accepted x) = record { body = x .head .body; next = x .head .next }

@@ -3,7 +3,7 @@
 use Prim.Native.Nat.{ℕ, _+_, _-_, _<_, _≤_}
 use mathlib.Core.Path.{_≡_, refl, sym, ap, _∙_}
 use mathlib.Core.List.{List, [], _∷_, _++_, append-assoc, append-nil}
-use mathlib.Core.Bool.{Bool, true, false}
+use mathlib.Core.Bool.{Bool, true, false, _&&_}
 use mathlib.Core.Option.{Option, none, some}
 use native.Mathlib.Omega.{arith}
 use native.Mathlib.Nat.{zero-add}
@@ -12,7 +12,7 @@ use lib.ListN.{length, take, drop, length-append, length-drop}
 use lib.Seq.{take-at, length-take-le}
 use Rattle.refusal.specs.Answers.{accepted}
 use Rattle.wire.specs.Numbers.{Bytes, bytesOf}
-use Rattle.wire.specs.Parts.{optPartOf}
+use Rattle.wire.specs.Parts.{optPartOf, liesIn}
 use Rattle.wire.specs.Puts.{put}
 use Rattle.wire.specs.declared.view.View.{View}
 use Rattle.wire.specs.declared.view.OptView.{OptView}
@@ -22,7 +22,6 @@ use Rattle.wire.proofs.Numbers.{length-bytes}
 use Rattle.wire.proofs.Puts.{text-in, text-out}
 use Rattle.field.specs.Fields.{Field}
 use Rattle.field.specs.Standing.{fieldBytes, Obeys}
-use Rattle.field.specs.Texts.{both}
 use Rattle.field.proofs.Texts as fields
 use Rattle.grammar.specs.Grammars.{How, asView, asOpt, asNumber, Row, gather}
 use Rattle.grammar.specs.Splits.{AllObey, join, blockBytes, BlockObeys, Split, blockOf, handedOf}
@@ -30,7 +29,7 @@ use Rattle.grammar.specs.Hellos.{extensions}
 use Rattle.grammar.specs.Forms.{Form, Out, Outs, named, allNamed, ifThere, seen, allSeen, valueOf, reading, pieces}
 use Rattle.grammar.specs.Demand3.{InRow, Lawful}
 use Rattle.grammar.proofs.Forms.{by-split}
-use Rattle.text.specs.Hellos.{inside, lies, mayStand, mayWrite, helloBytes, helloText}
+use Rattle.text.specs.Hellos.{lies, mayStand, mayWrite, helloBytes, helloText}
 use Rattle.text.specs.Messages.{headText, messageText}
 use Rattle.wayback.specs.WayBack.{EveryText, framed, added, back, WritesBack, lastAgain, again, ReadsAgain}
 use Rattle.text.proofs.Hellos.{Obeyed, obeyed, hello-may, hello-joined}
@@ -48,7 +47,7 @@ ends : (vs : List View) (from tail : ℕ) → InRow from vs tail → from ≤ ta
 ends [] from tail r = r
 ends (v ∷ vs) from tail (h, r) = omega (arith, ends vs (v .start + v .len) tail r)
 
-view-lies : (s : List ℕ) (v : View) (vs : List View) (tail : ℕ) → tail ≤ length s → InRow (v .start + v .len) vs tail → inside s v ≡ true
+view-lies : (s : List ℕ) (v : View) (vs : List View) (tail : ℕ) → tail ≤ length s → InRow (v .start + v .len) vs tail → liesIn s v ≡ true
 view-lies s v vs tail h r = le-leb (v .start + v .len) (length s) (omega (arith, ends vs (v .start + v .len) tail r))
 
 -- what was handed out of a field lies within the bytes, and the views after it are in a row
@@ -63,7 +62,7 @@ may : (f : Field) (m : How) (s : List ℕ) (o : Out m) → lies m s o ≡ true �
 may f m s o l p = rw l (fields.obeyed f (named m s o) p)
 
 all-may : (rs : List Row) (s : List ℕ) (os : Outs rs) (z : Bool) (vs : List View) (from tail : ℕ) → tail ≤ length s → AllObey rs (allNamed rs s os) → InRow from (allSeen rs os vs) tail
-    → (gather (λ (f, m) o rest. both (mayStand f m s o) rest) z rs os ≡ z) × ((n : ℕ) × InRow n vs tail)
+    → (gather (λ (f, m) o rest. mayStand f m s o && rest) z rs os ≡ z) × ((n : ℕ) × InRow n vs tail)
 all-may [] s os z vs from tail h p r = (refl, (from, r))
 all-may ((f, m) ∷ rs) s (o, os) z vs from tail h (p, ps) r =
     let l = seen-lies m s o (allSeen rs os vs) from tail h r in
@@ -132,6 +131,7 @@ every-text = record {
       let z : 0 + length t ≡ length t = zero-add (length t) in
       let w = text-in t 0 out refl (room-in out 0 (length t) (omega arith)) in
       (rw z at (w .says), rw z at (w .leaves));
+  enough = λ t out most h r. text-in t 0 out refl (room-in out 0 (length t) (omega arith)) .says ∙ ap accepted (zero-add (length t));
   short = λ t out h.
       let w = text-out t 0 out refl (room-out out 0 (length t) (omega arith)) in
       (w .says, w .leaves);
@@ -144,7 +144,7 @@ writes-back {C} k law ofHello kind most h body bytes bound =
     record {
       bound = λ c e. omega (arith, fits c e, hello-length k law ofHello body bytes c e);
       text = text;
-      enough = λ c e out r. rw (text c e) (every-text .writes (framed kind (back k body c)) out (omega (arith, fits c e, framed-length k law ofHello body bytes c e kind)) .0);
+      longest = λ c e. omega (arith, fits c e, framed-length k law ofHello body bytes c e kind);
     }
   where
     fits : (c : C) → reading k body ≡ accepted c → length (helloBytes k body c) ≤ most

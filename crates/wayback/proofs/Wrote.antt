@@ -7,7 +7,7 @@ use lib.ListN.{length}
 use Rattle.refusal.specs.Answers.{Answer, accepted, refused, then}
 use Rattle.refusal.specs.declared.Refusal.{Refusal}
 use Rattle.refusal.proofs.Then.{not-both, then-accepted}
-use Rattle.wire.specs.Parts.{pick, partOf}
+use Rattle.wire.specs.Parts.{pick, partOf, liesIn}
 use Rattle.wire.specs.Numbers.{bytesOf}
 use Rattle.wire.specs.declared.view.View.{View}
 use Rattle.field.specs.Fields.{Field, sized}
@@ -15,7 +15,7 @@ use Rattle.field.specs.Standing.{fieldBytes, Obeys}
 use Rattle.field.specs.Texts.{allowed, fieldText}
 use Rattle.field.proofs.Texts.{obeys}
 use Rattle.grammar.specs.Forms.{Form}
-use Rattle.text.specs.Hellos.{inside, mayWrite, helloBytes, helloText}
+use Rattle.text.specs.Hellos.{mayWrite, helloBytes, helloText}
 use Rattle.text.specs.Messages.{headText, messageText, viewText}
 use Rattle.text.proofs.Hellos.{Obeyed, obeyed}
 use Rattle.text.proofs.Messages.{same-text}
@@ -35,7 +35,7 @@ field-wrote f p e = let q = picked (allowed f (length p)) _ e in (obeys f p (q .
 
 pub view-wrote : (s : List ℕ) (v : View) {b : List ℕ} → viewText s v ≡ accepted b → partOf s v ≡ b
 unfolding viewText
-view-wrote s v e = picked (inside s v) _ e .1
+view-wrote s v e = picked (liesIn s v) _ e .1
 
 -- a message's body, and the message: type, length and body
 pub record Body (kind : ℕ) (body : Answer (List ℕ)) (t : List ℕ) : Type 0 where

@@ -1,42 +1,25 @@
 -- Demand 3, its writing half: what is written of a hello that was read, and what reading finds of hellos, messages and records that were
 -- written, whatever stands behind them. Shown by `proofs/Hellos.antt` for every form, `proofs/Demand3.antt` and `proofs/WayBack.antt`.
-use Rattle.refusal.specs.Words.{ℕ, _+_, _<_, _≤_, _≡_, List, [], _∷_, _++_, Bool, true, Option, none, some, length, take, drop}
-use Rattle.refusal.specs.Answers.{Answer, accepted, refused, giving}
-use Rattle.refusal.specs.Refusals.{unplaced}
-use Rattle.refusal.specs.declared.Reason.the-variants.{NoRoom}
-use Rattle.wire.specs.Parts.{partOf, optPartOf, lookup}
-use Rattle.wire.specs.Numbers.{Bytes, bytesOf}
-use Rattle.wire.specs.Puts.{room, written}
-use Rattle.wire.specs.declared.view.View.{View}
-use Rattle.wire.specs.declared.view.OptView.{OptView}
-use Rattle.wire.specs.declared.view.OptView.the-variants.{Absent, Present}
-use Rattle.field.specs.Fields.{Field}
-use Rattle.field.specs.Standing.{fieldBytes}
-use Rattle.grammar.specs.Hellos.{extensions}
-use Rattle.grammar.specs.Splits.{Pieces}
-use Rattle.grammar.specs.Forms.{Form, allNamed, pieces, reading, byVersion, ifListed}
-use Rattle.client.specs.Client.{client}
-use Rattle.client.specs.declared.TlsClientHelloContents.{TlsClientHelloContents}
-use Rattle.server.specs.Server.{server, serverVersions, draft18}
-use Rattle.server.specs.declared.tlsv12.TlsServerHelloContents.{TlsServerHelloContents}
-use Rattle.server.specs.declared.tlsv13draft18.TlsServerHelloV13Draft18Contents.{TlsServerHelloV13Draft18Contents}
-use Rattle.message.specs.declared.keyexchange.TlsClientKeyExchangeContents.{TlsClientKeyExchangeContents}
-use Rattle.message.specs.declared.keyexchange.TlsClientKeyExchangeContents.the-variants.{Unknown}
-use Rattle.message.specs.declared.handshake.TlsMessageHandshake.{TlsMessageHandshake}
-use Rattle.message.specs.declared.handshake.TlsMessageHandshake.the-variants.{HelloRequest, ClientHello, ServerHello, ServerHelloV13Draft18, ClientKeyExchange, Finished}
-use Rattle.envelope.specs.Opening.{byTypeIn, metAt}
-use Rattle.record.specs.Records.{raw}
-use Rattle.record.specs.declared.TlsRecordHeader.{TlsRecordHeader}
-use Rattle.text.specs.Hellos.{helloText}
-use Rattle.text.specs.Messages.{headText, messageText}
+use Rattle.refusal.specs.{ℕ, _+_, _<_, _≤_, _≡_, List, [], _∷_, _++_, Bool, true, Option, none, some, length, take, drop, unplaced, Answer, accepted, refused, giving, NoRoom}
+use Rattle.wire.specs.{partOf, optPartOf, lookup, Bytes, bytesOf, room, written, OptView, Absent, Present, View}
+use Rattle.field.specs.{Field, fieldBytes}
+use Rattle.grammar.specs.{extensions, Pieces, Form, allNamed, pieces, reading, byVersion, ifListed}
+use Rattle.text.specs.{helloText, headText, messageText}
+use Rattle.client.specs.{client, TlsClientHelloContents}
+use Rattle.server.specs.{server, serverVersions, draft18, TlsServerHelloContents, TlsServerHelloV13Draft18Contents}
+use Rattle.message.specs.{TlsMessageHandshake, HelloRequest, ClientHello, ServerHello, ServerHelloV13Draft18, ClientKeyExchange, Finished, TlsClientKeyExchangeContents, Unknown}
 use Rattle.genpart.specs.Exchange.{exchangeText}
 use Rattle.genmessage.specs.Messages.{handshakeText}
+use Rattle.envelope.specs.{byTypeIn, metAt}
+use Rattle.record.specs.{raw, TlsRecordHeader}
 use Rattle.genrecord.specs.Records.{recordText}
 
 -- any text, written from the front of any output
 pub record EveryText : Type 0 where
   -- with room for it, its bytes are the first of the output, all others are as they were, and the answer is their number
   pub writes : (t out : List ℕ) → length t ≤ length out → (room (accepted t) 0 out ≡ accepted (length t)) × (written (accepted t) 0 out ≡ t ++ drop (length t) out)
+  -- so an output as long as the longest of some texts is enough for each of them
+  pub enough : (t out : List ℕ) (most : ℕ) → length t ≤ most → most ≤ length out → room (accepted t) 0 out ≡ accepted (length t)
   -- with room short by one byte or more, it is NoRoom, and every byte is as it was
   pub short : (t out : List ℕ) → length out < length t → (room (accepted t) 0 out ≡ refused (unplaced NoRoom)) × (written (accepted t) 0 out ≡ out)
 
@@ -57,11 +40,10 @@ back k body c = take (k .tail c) body ++ added (k .block c)
 pub record WritesBack {C : Type 0} (k : Form C) (kind most : ℕ) (body : List ℕ) : Type 0 where
   -- before its tail the body has at most so many bytes
   pub bound : (c : C) → reading k body ≡ accepted c → k .tail c ≤ most
-  -- its text
+  -- its text, type and length before the bytes of the body up to its tail, and what is added
   pub text : (c : C) → reading k body ≡ accepted c → messageText (headText kind) (helloText k body c) ≡ accepted (framed kind (back k body c))
-  -- with room for the longest, it is never refused
-  pub enough : (c : C) → reading k body ≡ accepted c → (out : List ℕ) → 4 + most ≤ length out
-      → room (messageText (headText kind) (helloText k body c)) 0 out ≡ accepted (length (framed kind (back k body c)))
+  -- with what is added, too, they are at most so many: so an output of four bytes more is enough
+  pub longest : (c : C) → reading k body ≡ accepted c → length (framed kind (back k body c)) ≤ 4 + most
 
 -- the text of a ServerHello that was read by the form that its version announces
 abbrev pub BackByVersion : List ℕ → Type 0
@@ -148,7 +130,7 @@ pub record InRecord (hdr : TlsRecordHeader) (p text rest : List ℕ) : Type 0 wh
 pub record WayBack : Type 0 where
   -- a message of any type and of any body that three bytes can count
   pub every : (kind : ℕ) (b rest : List ℕ) → kind < 256 → length b < 16777216 → Found kind b (byTypeIn 0 4 kind b) (framed kind b) rest
-  -- every text of a message is one
+  -- every text of a message is type, length and a body that three bytes can count
   pub texts : (kind : ℕ) (body : Answer (List ℕ)) (t : List ℕ) → messageText (headText kind) body ≡ accepted t
       → (b : List ℕ) × (body ≡ accepted b) × (length b < 16777216) × (framed kind b ≡ t)
   -- the kinds that are written

@@ -1,14 +1,8 @@
 -- Numbers of any width. Document 01: "Numbers are big-endian." RFC 5246 4.1 gives the sum of the bytes, 4.4 the widths.
-use Rattle.refusal.specs.Words.{ℕ, zero, suc, _+_, _*_, _/_, _%_, _^_, _<_, _≤_, _≡_, List, [], _∷_, _++_, length, take, getD, ltb}
-use Rattle.refusal.specs.Answers.{Answer, accepted, refused, then}
-use Rattle.refusal.specs.Refusals.{unplaced}
-use Rattle.refusal.specs.declared.Reason.the-variants.{Incomplete, BadLength}
+use Rattle.refusal.specs.{ℕ, zero, suc, _+_, _*_, _/_, _%_, _^_, _<_, _≤_, _≡_, List, [], _∷_, _++_, length, take, getD, ltb, unplaced, Answer, accepted, refused, Incomplete, BadLength, giving}
 use Rattle.wire.specs.Parts.{pick, partAt}
-use Rattle.wire.specs.declared.number.Width.{Width}
+use Rattle.wire.specs.declared.{number.Number.Number, number.NumberAnswer.NumberAnswer, number.Width.Width}
 use Rattle.wire.specs.declared.number.Width.the-variants.{One, Two, Three, Four}
-use Rattle.wire.specs.declared.number.Number.{Number}
-use Rattle.wire.specs.declared.number.NumberAnswer.{NumberAnswer}
-use Rattle.wire.specs.declared.number.NumberAnswer.the-variants.{Refused, Got}
 
 -- the widths in use: uint8, uint16, uint24, uint32
 abbrev pub bytesIn : Width → ℕ
@@ -43,18 +37,17 @@ pub record EachUndoes (w : ℕ) : Type 0 where
 
 -- reading: the number at a place, and the place past it
 unfoldable pub numberAt : ℕ → List ℕ → ℕ → Answer Number
-numberAt w s at = then (partAt Incomplete s at w) (λ p. accepted (record { value = be w s at; next = p .next }))
+numberAt w s at = giving (λ p. record { value = be w s at; next = p .next }) (partAt Incomplete s at w)
 
 -- a number that was found is one of w bytes
 abbrev pub Below : ℕ → NumberAnswer → Type 0
-Below w (Refused r) = Unit
-Below w (Got n) = n .value < 256 ^ w
+Below w (NumberAnswer.Refused r) = Unit
+Below w (NumberAnswer.Got n) = n .value < 256 ^ w
 
 -- writing: the number's bytes, where w bytes can hold it
 unfoldable pub numberText : ℕ → ℕ → Answer (List ℕ)
 numberText w n = pick (ltb n (256 ^ w)) (accepted (bytesOf w n)) (refused (unplaced BadLength))
 
--- as an `Answer`, which has the paper's number and the values
 abbrev pub numberSays : NumberAnswer → Answer Number
-numberSays (Refused r) = refused r
-numberSays (Got n) = accepted n
+numberSays (NumberAnswer.Refused r) = refused r
+numberSays (NumberAnswer.Got n) = accepted n

@@ -1,16 +1,8 @@
 -- Parts of the bytes lent: what a view names, and the bytes from a place on. Document 01: "a view that lies outside the bytes given with it
 -- yields the empty part".
-use Rattle.refusal.specs.Words.{ℕ, _+_, _-_, List, [], _∷_, Bool, true, false, Option, none, some, length, take, drop, leb, eqb}
-use Rattle.refusal.specs.Answers.{Answer, accepted, refused}
-use Rattle.refusal.specs.Refusals.{refusal}
-use Rattle.refusal.specs.declared.Reason.{Reason}
-use Rattle.refusal.specs.declared.Refusal.{Refusal}
-use Rattle.wire.specs.declared.view.View.{View}
-use Rattle.wire.specs.declared.view.OptView.{OptView}
+use Rattle.refusal.specs.{ℕ, _+_, _-_, List, [], _∷_, Bool, true, false, Option, none, some, length, take, drop, leb, eqb, refusal, Answer, accepted, refused, Reason, Refusal}
+use Rattle.wire.specs.declared.{view.OptView.OptView, view.Part.Part, view.PartAnswer.PartAnswer, view.View.View}
 use Rattle.wire.specs.declared.view.OptView.the-variants.{Absent, Present}
-use Rattle.wire.specs.declared.view.Part.{Part}
-use Rattle.wire.specs.declared.view.PartAnswer.{PartAnswer}
-use Rattle.wire.specs.declared.view.PartAnswer.the-variants.{Refused, Got}
 
 -- the first where the test holds, else the second
 abbrev pub pick : {A : Type 0} → Bool → A → A → A
@@ -27,9 +19,13 @@ abbrev pub lookup : {A : Type 0} → ℕ → List (ℕ × A) → Option A
 lookup k [] = none
 lookup k ((n, a) ∷ rows) = pick (eqb k n) (some a) (lookup k rows)
 
+-- the view lies within the bytes
+abbrev pub liesIn : List ℕ → View → Bool
+liesIn s v = leb (v .start + v .len) (length s)
+
 -- the bytes of a view, or none where it lies outside
 abbrev pub partOf : List ℕ → View → List ℕ
-partOf s v = pick (leb (v .start + v .len) (length s)) (take (v .len) (drop (v .start) s)) []
+partOf s v = pick (liesIn s v) (take (v .len) (drop (v .start) s)) []
 
 -- the bytes of a part that may be missing: a missing one has none
 abbrev pub optPartOf : List ℕ → OptView → List ℕ
@@ -44,7 +40,6 @@ partOr r s at n = pick (leb (at + n) (length s)) (accepted (record { view = reco
 unfoldable pub partAt : Reason → List ℕ → ℕ → ℕ → Answer Part
 partAt past s at n = partOr (refusal past at (n - (length s - at))) s at n
 
--- as an `Answer`, which has the paper's number and the values
 abbrev pub partSays : PartAnswer → Answer Part
-partSays (Refused r) = refused r
-partSays (Got p) = accepted p
+partSays (PartAnswer.Refused r) = refused r
+partSays (PartAnswer.Got p) = accepted p

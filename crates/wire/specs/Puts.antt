@@ -1,13 +1,8 @@
 -- Writing into a lent buffer. Document 01: "A refused write leaves the output exactly as lent; an accepted one sets its first n bytes,
 -- reports n, and touches no others."
-use Rattle.refusal.specs.Words.{ℕ, _+_, List, _++_, length, take, drop, leb}
-use Rattle.refusal.specs.Answers.{Answer, accepted, refused, then}
-use Rattle.refusal.specs.Refusals.{unplaced}
-use Rattle.refusal.specs.declared.Reason.the-variants.{NoRoom}
+use Rattle.refusal.specs.{ℕ, _+_, List, _++_, length, take, drop, leb, unplaced, Answer, accepted, refused, then, NoRoom, giving}
 use Rattle.wire.specs.Parts.{pick, partOr}
-use Rattle.wire.specs.declared.view.Part.{Part}
-use Rattle.wire.specs.declared.output.WriteAnswer.{WriteAnswer}
-use Rattle.wire.specs.declared.output.WriteAnswer.the-variants.{Refused, Wrote}
+use Rattle.wire.specs.declared.{output.WriteAnswer.WriteAnswer, view.Part.Part}
 
 -- a buffer with bytes put in from a place on
 unfoldable pub put : List ℕ → ℕ → List ℕ → List ℕ
@@ -19,14 +14,13 @@ roomAt d at n = partOr (unplaced NoRoom) d at n
 
 -- the answer to writing a text from a place on: the place past it, or its own refusal, or NoRoom
 unfoldable pub room : Answer (List ℕ) → ℕ → List ℕ → Answer ℕ
-room t at d = then t (λ bs. then (roomAt d at (length bs)) (λ p. accepted (p .next)))
+room t at d = then t (λ bs. giving (λ p. p .next) (roomAt d at (length bs)))
 
 -- the buffer afterwards: the text put in where there is room for it, else the buffer as lent
 unfoldable pub written : Answer (List ℕ) → ℕ → List ℕ → List ℕ
 written (accepted bs) at d = pick (leb (at + length bs) (length d)) (put d at bs) d
 written (refused r) at d = d
 
--- as an `Answer`, which has the paper's number and the values
 abbrev pub writeSays : WriteAnswer → Answer ℕ
-writeSays (Refused r) = refused r
-writeSays (Wrote n) = accepted n
+writeSays (WriteAnswer.Refused r) = refused r
+writeSays (WriteAnswer.Wrote n) = accepted n

@@ -1,39 +1,18 @@
 -- Document 01's table of refusals, of the writers: "Each is given only then", and "Order in writing: 12, then 8, or 7 for a record, then
 -- 9". The rules stand here a second time, from the paper, in plain lengths and places: no case names a field, a rule or a form. By its
 -- contract a writer's answer is `room` of its text, so each case is one of the code. Shown by `proofs/Writers.antt`.
-use Rattle.refusal.specs.Words.{ℕ, _+_, _%_, _≡_, List, [], _∷_, Bool, true, false, _&&_, _||_, Option, none, some, length, getD, leb, eqb}
-use Rattle.refusal.specs.Refusals.{numberOf}
-use Rattle.refusal.specs.Answers.{Answer, accepted, numberIn, valuesIn}
-use Rattle.refusal.specs.declared.Reason.{Reason}
-use Rattle.refusal.specs.declared.Reason.the-variants.{TooLarge, BadLength, NoRoom, NotYetImplemented}
-use Rattle.wire.specs.Parts.{pick}
-use Rattle.wire.specs.Numbers.{bytesIn, numberText}
-use Rattle.wire.specs.Puts.{room}
-use Rattle.wire.specs.declared.view.View.{View}
-use Rattle.wire.specs.declared.view.OptView.{OptView}
-use Rattle.wire.specs.declared.view.OptView.the-variants.{Absent, Present}
-use Rattle.wire.specs.declared.number.Width.{Width}
-use Rattle.wire.specs.declared.number.Width.the-variants.{One, Two, Three, Four}
-use Rattle.field.specs.Fields.{counted, ruleOf}
-use Rattle.field.specs.Texts.{fieldText}
-use Rattle.field.specs.declared.Kind.{Kind}
-use Rattle.field.specs.declared.Kind.the-variants.{Plain, SessionId, Ciphers, Methods, Fragment}
-use Rattle.text.specs.Hellos.{helloText}
-use Rattle.text.specs.Messages.{headText, messageText, viewText}
-use Rattle.client.specs.Client.{client}
-use Rattle.client.specs.declared.TlsClientHelloContents.{TlsClientHelloContents}
-use Rattle.server.specs.Server.{server, draft18}
-use Rattle.server.specs.declared.tlsv12.TlsServerHelloContents.{TlsServerHelloContents}
-use Rattle.server.specs.declared.tlsv13draft18.TlsServerHelloV13Draft18Contents.{TlsServerHelloV13Draft18Contents}
-use Rattle.message.specs.declared.keyexchange.TlsClientKeyExchangeContents.{TlsClientKeyExchangeContents}
-use Rattle.message.specs.declared.keyexchange.TlsClientKeyExchangeContents.the-variants.{Dh, Ecdh, Unknown}
-use Rattle.message.specs.declared.handshake.TlsMessageHandshake.{TlsMessageHandshake}
-use Rattle.message.specs.declared.handshake.TlsMessageHandshake.the-variants.{HelloRequest, ClientHello, ServerHello, ServerHelloV13Draft18, NewSessionTicket, EndOfEarlyData, HelloRetryRequest, Certificate, ServerKeyExchange, CertificateRequest, ServerDone, CertificateVerify, ClientKeyExchange, Finished, CertificateStatus, NextProtocol, KeyUpdate}
+use Rattle.refusal.specs.{ℕ, _+_, _%_, _≡_, List, [], _∷_, Bool, true, _&&_, _||_, Option, none, some, length, leb, eqb, numberOf, Answer, accepted, numberIn, valuesIn, Reason, TooLarge, BadLength, NoRoom, NotYetImplemented}
+use Rattle.wire.specs.{pick, bytesIn, numberText, room, View, OptView, Absent, Present, Width, One, Two, Three, Four}
+use Rattle.field.specs.{counted, ruleOf, fieldText, Kind, Plain, SessionId, Ciphers, Methods, Fragment}
+use Rattle.text.specs.{helloText, headText, messageText, viewText}
+use Rattle.client.specs.{client, TlsClientHelloContents}
+use Rattle.server.specs.{server, draft18, TlsServerHelloContents, TlsServerHelloV13Draft18Contents}
+use Rattle.message.specs.{TlsClientKeyExchangeContents, Dh, Ecdh, Unknown, TlsMessageHandshake, HelloRequest, ClientHello, ServerHello, ServerHelloV13Draft18, NewSessionTicket, EndOfEarlyData, HelloRetryRequest, Certificate, ServerKeyExchange, CertificateRequest, ServerDone, CertificateVerify, ClientKeyExchange, Finished, CertificateStatus, NextProtocol, KeyUpdate}
 use Rattle.genpart.specs.Exchange.{exchangeText}
 use Rattle.genmessage.specs.Messages.{handshakeText}
-use Rattle.record.specs.declared.TlsRecordHeader.{TlsRecordHeader}
+use Rattle.record.specs.{TlsRecordHeader}
 use Rattle.genrecord.specs.Records.{recordText}
-use Rattle.hear.specs.Heard.{heard}
+use Rattle.hear.specs.{heard}
 
 -- what a write comes to: the paper's number, and where it is accepted the place past the text, which is the text's length at the front
 pub record Case : Type 0 where
@@ -89,40 +68,25 @@ partFits most s v = lent s v && leb (v .len) most
 
 -- ClientHello: type 1, length 3; version 2, random 32, id length 1, id, cipher length 2, ciphers, compression length 1, methods,
 -- extensions length 2, extensions
-unfoldable pub clientFits : List ℕ → TlsClientHelloContents → Bool
-clientFits s c =
-    randomFits s (c .random)
-    && (idFits s (c .«session_id»)
-    && (ciphersFit s (c .ciphers)
-    && (partFits 255 s (c .comp)
-    && extensionsFit s (c .ext))))
-
-unfoldable pub clientLength : TlsClientHelloContents → ℕ
-clientLength c = 4 + (2 + 32 + (1 + optLen (c .«session_id»)) + (2 + c .ciphers .len) + (1 + c .comp .len) + (2 + optLen (c .ext)))
-
-abbrev pub clientWrite : List ℕ → TlsClientHelloContents → List ℕ → Case
-clientWrite s c out = whereFits (clientFits s c) (clientLength c) out
+unfoldable pub clientWrite : List ℕ → TlsClientHelloContents → List ℕ → Case
+clientWrite s c out =
+    whereFits
+    (randomFits s (c .random) && (idFits s (c .«session_id») && (ciphersFit s (c .ciphers) && (partFits 255 s (c .comp) && extensionsFit s (c .ext)))))
+    (4 + (2 + 32 + (1 + optLen (c .«session_id»)) + (2 + c .ciphers .len) + (1 + c .comp .len) + (2 + optLen (c .ext))))
+    out
 
 -- ServerHello, of whatever version: type 1, length 3; version 2, random 32, id length 1, id, cipher 2, compression 1, extensions length 2,
 -- extensions
-unfoldable pub serverFits : List ℕ → TlsServerHelloContents → Bool
-serverFits s c = randomFits s (c .random) && (idFits s (c .«session_id») && extensionsFit s (c .ext))
-
-unfoldable pub serverLength : TlsServerHelloContents → ℕ
-serverLength c = 4 + (2 + 32 + (1 + optLen (c .«session_id»)) + 2 + 1 + (2 + optLen (c .ext)))
-
-abbrev pub serverWrite : List ℕ → TlsServerHelloContents → List ℕ → Case
-serverWrite s c out = whereFits (serverFits s c) (serverLength c) out
+unfoldable pub serverWrite : List ℕ → TlsServerHelloContents → List ℕ → Case
+serverWrite s c out =
+    whereFits
+    (randomFits s (c .random) && (idFits s (c .«session_id») && extensionsFit s (c .ext)))
+    (4 + (2 + 32 + (1 + optLen (c .«session_id»)) + 2 + 1 + (2 + optLen (c .ext))))
+    out
 
 -- draft 18: type 1, length 3; version 2, random 32, cipher 2, extensions length 2, extensions
-unfoldable pub draft18Fits : List ℕ → TlsServerHelloV13Draft18Contents → Bool
-draft18Fits s c = randomFits s (c .random) && extensionsFit s (c .ext)
-
-unfoldable pub draft18Length : TlsServerHelloV13Draft18Contents → ℕ
-draft18Length c = 4 + (2 + 32 + 2 + (2 + optLen (c .ext)))
-
-abbrev pub draft18Write : List ℕ → TlsServerHelloV13Draft18Contents → List ℕ → Case
-draft18Write s c out = whereFits (draft18Fits s c) (draft18Length c) out
+unfoldable pub draft18Write : List ℕ → TlsServerHelloV13Draft18Contents → List ℕ → Case
+draft18Write s c out = whereFits (randomFits s (c .random) && extensionsFit s (c .ext)) (4 + (2 + 32 + 2 + (2 + optLen (c .ext)))) out
 
 -- "raw (at most 16,777,215 bytes), Diffie-Hellman (length 2, at most 65,535) or elliptic curve (length 1, at most 255)"
 abbrev pub exchangeWrite : List ℕ → TlsClientKeyExchangeContents → List ℕ → Case
@@ -175,14 +139,6 @@ most Two = 65535
 most Three = 16777215
 most Four = 4294967295
 
--- a number at a place
-abbrev pub numberWrite : Width → ℕ → ℕ → List ℕ → Case
-numberWrite w n at out = whereFits (leb n (most w)) (at + wide w) out
-
--- the lent bytes at a place
-abbrev pub bytesWrite : List ℕ → ℕ → List ℕ → Case
-bytesWrite s at out = upTo (at + length s) out
-
 -- a part of n bytes behind its length: "id at most 32; cipher bytes even", and a record's at most 16,640
 abbrev pub kindFits : Kind → ℕ → Bool
 kindFits Plain n = true
@@ -202,88 +158,31 @@ kindSays Fragment = TooLarge
 abbrev pub fieldWrite : Width → Kind → List ℕ → ℕ → List ℕ → Case
 fieldWrite w k p at out = pick (leb (length p) (most w) && kindFits k (length p)) (upTo (at + (wide w + length p)) out) (refusing (kindSays k))
 
--- type and length of a message with a body of n bytes
-abbrev pub headWrite : ℕ → List ℕ → Case
-headWrite n out = whereFits (leb n 16777215) 4 out
+-- 0, or the number of one of these
+abbrev pub isOne : List Reason → ℕ → Bool
+isOne [] n = eqb n 0
+isOne (why ∷ whys) n = eqb n (numberOf why) || isOne whys n
 
--- every writer: s has the bytes that are written or that the views are of, and out is the output as lent
+-- a text written from a place on comes to this case, and is refused for one of these reasons or not at all
+pub record Comes (text : Answer (List ℕ)) (at : ℕ) (out : List ℕ) (case : Case) (whys : List Reason) : Type 0 where
+  pub is : comesTo (room text at out) ≡ case
+  pub only : isOne whys (numberIn (room text at out)) ≡ true
+
+-- every writer: its text, its case, and the refusals that it gives, in their order; s has the bytes that are written or that the views are
+-- of, and out is the output as lent
 pub record Writers (s out : List ℕ) : Type 0 where
-  pub clientHello : (c : TlsClientHelloContents) → comesTo (room (messageText (headText 0x01) (helloText client s c)) 0 out) ≡ clientWrite s c out
-  pub serverHello : (c : TlsServerHelloContents) → comesTo (room (messageText (headText 0x02) (helloText (server true) s c)) 0 out) ≡ serverWrite s c out
-  pub draft18Hello : (c : TlsServerHelloV13Draft18Contents) → comesTo (room (messageText (headText 0x02) (helloText draft18 s c)) 0 out) ≡ draft18Write s c out
-  pub clientKeyExchange : (k : TlsClientKeyExchangeContents) → comesTo (room (messageText (headText 0x10) (exchangeText s k)) 0 out) ≡ exchangeWrite s k out
-  pub finished : (v : View) → comesTo (room (messageText (headText 0x14) (viewText s v)) 0 out) ≡ finishedWrite s v out
-  pub helloRequest : comesTo (room (messageText (headText 0x00) (accepted [])) 0 out) ≡ requestWrite out
-  pub handshake : (m : TlsMessageHandshake) → comesTo (room (handshakeText s m) 0 out) ≡ handshakeWrite s m out
-  pub plaintext : (hdr : TlsRecordHeader) → comesTo (room (recordText hdr s) 0 out) ≡ recordWrite s out
-  -- what they are made of
-  pub number : (w : Width) (n at : ℕ) → comesTo (room (numberText (bytesIn w) n) at out) ≡ numberWrite w n at out
-  pub bytes : (at : ℕ) → comesTo (room (accepted s) at out) ≡ bytesWrite s at out
-  pub field : (w : Width) (k : Kind) (at : ℕ) → comesTo (room (fieldText (counted (bytesIn w) (ruleOf k)) s) at out) ≡ fieldWrite w k s at out
-  pub head : (kind n : ℕ) → comesTo (room (headText kind n) 0 out) ≡ headWrite n out
-
--- a number is one of these
-abbrev pub isOne : List ℕ → ℕ → Bool
-isOne [] n = false
-isOne (k ∷ ks) n = eqb n k || isOne ks n
-
-abbrev pub Among : List ℕ → Answer ℕ → Type 0
-Among ks a = isOne ks (numberIn a) ≡ true
-
--- of a writer that looks at lengths
-abbrev pub givenForLengths : List ℕ
-givenForLengths = 0 ∷ numberOf BadLength ∷ numberOf NoRoom ∷ []
-
--- of one that does not
-abbrev pub givenForRoom : List ℕ
-givenForRoom = 0 ∷ numberOf NoRoom ∷ []
-
-abbrev pub givenForMessages : List ℕ
-givenForMessages = 0 ∷ numberOf BadLength ∷ numberOf NoRoom ∷ numberOf NotYetImplemented ∷ []
-
-abbrev pub givenForRecords : List ℕ
-givenForRecords = 0 ∷ numberOf TooLarge ∷ numberOf NoRoom ∷ []
-
-abbrev pub givenForFields : Kind → List ℕ
-givenForFields k = 0 ∷ numberOf (kindSays k) ∷ numberOf NoRoom ∷ []
-
--- of hearing, which writes nothing
-abbrev pub givenForHearing : List ℕ
-givenForHearing = 0 ∷ numberOf BadLength ∷ numberOf NotYetImplemented ∷ []
-
--- the numbers that each writer gives, and no other
-pub record OnlyTheirs (s out : List ℕ) : Type 0 where
-  pub clientHello : (c : TlsClientHelloContents) → Among givenForLengths (room (messageText (headText 0x01) (helloText client s c)) 0 out)
-  pub serverHello : (c : TlsServerHelloContents) → Among givenForLengths (room (messageText (headText 0x02) (helloText (server true) s c)) 0 out)
-  pub draft18Hello : (c : TlsServerHelloV13Draft18Contents) → Among givenForLengths (room (messageText (headText 0x02) (helloText draft18 s c)) 0 out)
-  pub clientKeyExchange : (k : TlsClientKeyExchangeContents) → Among givenForLengths (room (messageText (headText 0x10) (exchangeText s k)) 0 out)
-  pub finished : (v : View) → Among givenForLengths (room (messageText (headText 0x14) (viewText s v)) 0 out)
-  pub helloRequest : Among givenForRoom (room (messageText (headText 0x00) (accepted [])) 0 out)
-  pub handshake : (m : TlsMessageHandshake) → Among givenForMessages (room (handshakeText s m) 0 out)
-  pub plaintext : (hdr : TlsRecordHeader) → Among givenForRecords (room (recordText hdr s) 0 out)
-  pub number : (w : Width) (n at : ℕ) → Among givenForLengths (room (numberText (bytesIn w) n) at out)
-  pub bytes : (at : ℕ) → Among givenForRoom (room (accepted s) at out)
-  pub field : (w : Width) (k : Kind) (at : ℕ) → Among (givenForFields k) (room (fieldText (counted (bytesIn w) (ruleOf k)) s) at out)
-  pub head : (kind n : ℕ) → Among givenForLengths (room (headText kind n) 0 out)
-  -- of numbers that tell of a message to be written
-  pub hearing : isOne givenForHearing (numberIn (heard s)) ≡ true
-
--- "The type decides": 0x00, "0x01, 0x02: the hellos", 0x10, 0x14; a kind that is not written has none
-unfoldable pub typeWritten : TlsMessageHandshake → Option ℕ
-typeWritten HelloRequest = some 0x00
-typeWritten (ClientHello c) = some 0x01
-typeWritten (ServerHello c) = some 0x02
-typeWritten (ServerHelloV13Draft18 c) = some 0x02
-typeWritten (ClientKeyExchange k) = some 0x10
-typeWritten (Finished v) = some 0x14
-typeWritten (NewSessionTicket c) = none
-typeWritten EndOfEarlyData = none
-typeWritten (HelloRetryRequest c) = none
-typeWritten (Certificate c) = none
-typeWritten (ServerKeyExchange c) = none
-typeWritten (CertificateRequest c) = none
-typeWritten (ServerDone v) = none
-typeWritten (CertificateVerify v) = none
-typeWritten (CertificateStatus c) = none
-typeWritten (NextProtocol c) = none
-typeWritten (KeyUpdate n) = none
+  pub clientHello : (c : TlsClientHelloContents) → Comes (messageText (headText 0x01) (helloText client s c)) 0 out (clientWrite s c out) (BadLength ∷ NoRoom ∷ [])
+  pub serverHello : (c : TlsServerHelloContents) → Comes (messageText (headText 0x02) (helloText (server true) s c)) 0 out (serverWrite s c out) (BadLength ∷ NoRoom ∷ [])
+  pub draft18Hello : (c : TlsServerHelloV13Draft18Contents) → Comes (messageText (headText 0x02) (helloText draft18 s c)) 0 out (draft18Write s c out) (BadLength ∷ NoRoom ∷ [])
+  pub clientKeyExchange : (k : TlsClientKeyExchangeContents) → Comes (messageText (headText 0x10) (exchangeText s k)) 0 out (exchangeWrite s k out) (BadLength ∷ NoRoom ∷ [])
+  pub finished : (v : View) → Comes (messageText (headText 0x14) (viewText s v)) 0 out (finishedWrite s v out) (BadLength ∷ NoRoom ∷ [])
+  pub helloRequest : Comes (messageText (headText 0x00) (accepted [])) 0 out (requestWrite out) (NoRoom ∷ [])
+  pub handshake : (m : TlsMessageHandshake) → Comes (handshakeText s m) 0 out (handshakeWrite s m out) (NotYetImplemented ∷ BadLength ∷ NoRoom ∷ [])
+  pub plaintext : (hdr : TlsRecordHeader) → Comes (recordText hdr s) 0 out (recordWrite s out) (TooLarge ∷ NoRoom ∷ [])
+  -- what they are made of: a number and the lent bytes at a place, a part behind its length, type and length of a message of n bytes
+  pub number : (w : Width) (n at : ℕ) → Comes (numberText (bytesIn w) n) at out (whereFits (leb n (most w)) (at + wide w) out) (BadLength ∷ NoRoom ∷ [])
+  pub bytes : (at : ℕ) → Comes (accepted s) at out (upTo (at + length s) out) (NoRoom ∷ [])
+  pub field : (w : Width) (k : Kind) (at : ℕ) → Comes (fieldText (counted (bytesIn w) (ruleOf k)) s) at out (fieldWrite w k s at out) (kindSays k ∷ NoRoom ∷ [])
+  pub head : (kind n : ℕ) → Comes (headText kind n) 0 out (whereFits (leb n 16777215) 4 out) (BadLength ∷ NoRoom ∷ [])
+  -- numbers that tell of a message to be written: hearing them writes nothing
+  pub hearing : isOne (NotYetImplemented ∷ BadLength ∷ []) (numberIn (heard s)) ≡ true

@@ -25,11 +25,9 @@ use Rattle.wayback.proofs.Hellos.{every-text}
 use Rattle.wayback.proofs.Demand3 as back
 use Rattle.wayback.proofs.WayBack.{way-back}
 use Rattle.readings.proofs.Rows.{each-row}
-use Rattle.readcases.proofs.Readers.{every-reading}
-use Rattle.readcases.proofs.Only.{every-answer}
-use Rattle.readcases.proofs.Witnesses.{each-given}
-use Rattle.writecases.proofs.Writers.{every-writing, every-number, every-type}
-use Rattle.claims.proofs.Crossed.{header-and-record, tells-its-type}
+use Rattle.readcases.proofs.Table.{every-reading}
+use Rattle.writecases.proofs.Writers.{every-writing}
+use Rattle.claims.proofs.Crossed.{header-and-record, tells-its-type, every-type}
 use Rattle.claims.proofs.all_claims.Statement.{statement}
 use Rattle.claims.proofs.all_claims.Tie as tie
 
@@ -96,10 +94,7 @@ returns c = record {
   paperRows = each-row .0;
   otherRows = each-row .1;
   readersSay = every-reading;
-  readersGive = every-answer;
-  eachGiven = each-given;
   writersSay = every-writing;
-  writersGive = every-number;
   writersType = every-type;
 }
 

@@ -3,7 +3,7 @@ use native.Mathlib.Omega.{arith}
 use borrow.Author.Tests.{le-leb, lt-leb, lt-ltb, le-ltb}
 use lib.ListN.{length}
 use denote.Ref.{now}
-use Rattle.hear.specs.Heard.{at, heardClient}
+use Rattle.hear.specs.Heard.{at, ifFit, heardAs}
 use borrow.Author.Needs.{needs}
 use Rattle.hear.proofs.hear_client.Statement.{statement}
 use Rattle.hear.proofs.hear_client.Tie as tie
@@ -12,7 +12,7 @@ bad-numbers-requires : tie.Need-bad-numbers-requires
 bad-numbers-requires c κs = search needs
 
 returns : tie.Need-returns
-unfolding heardClient
+unfolding heardAs ifFit
 returns c =
     let m = now (c .before .before .before .args .m) in
     rw (lt-leb 15 (length m) (omega arith)) (c .bad-numbers .ensures)
@@ -24,7 +24,7 @@ bad-numbers-requires-2 : tie.Need-bad-numbers-requires-2
 bad-numbers-requires-2 c κs = search needs
 
 returns-2 : tie.Need-returns-2
-unfolding heardClient
+unfolding heardAs ifFit
 returns-2 c =
     let m = now (c .before .before .before .before .before .args .m) in
     rw (le-leb 15 (length m) (omega arith), le-ltb (at m 1) 0x10000 (omega arith)) (c .bad-numbers2 .ensures)
@@ -78,7 +78,7 @@ shared-slice-read-t8 : tie.Need-shared-slice-read-t8
 shared-slice-read-t8 c = search needs
 
 returns-3 : tie.Need-returns-3
-unfolding heardClient
+unfolding heardAs ifFit
 returns-3 c =
     let m = now (c .before .before .before .before .before .before .before .before .before .before .before .before .before .before .before .before .before .before .before .args .m) in
     rw (le-leb 15 (length m) (omega arith), lt-ltb (at m 1) 0x10000 (omega arith), c .before .before .before .before .before .before .before .before .before .opt-view .ensures, c .before .opt-view2 .ensures)

@@ -3,7 +3,7 @@ use native.Mathlib.Omega.{arith}
 use borrow.Author.Tests.{le-leb, lt-leb, lt-ltb, le-ltb}
 use lib.ListN.{length}
 use denote.Ref.{now}
-use Rattle.hear.specs.Heard.{at, heardDraft18}
+use Rattle.hear.specs.Heard.{at, ifFit, heardAs}
 use borrow.Author.Needs.{needs}
 use Rattle.hear.proofs.hear_draft18.Statement.{statement}
 use Rattle.hear.proofs.hear_draft18.Tie as tie
@@ -12,7 +12,7 @@ bad-numbers-requires : tie.Need-bad-numbers-requires
 bad-numbers-requires c κs = search needs
 
 returns : tie.Need-returns
-unfolding heardDraft18
+unfolding heardAs ifFit
 returns c =
     let m = now (c .before .before .before .args .m) in
     rw (lt-leb 9 (length m) (omega arith)) (c .bad-numbers .ensures)
@@ -27,7 +27,7 @@ bad-numbers-requires-2 : tie.Need-bad-numbers-requires-2
 bad-numbers-requires-2 c κs = search needs
 
 returns-2 : tie.Need-returns-2
-unfolding heardDraft18
+unfolding heardAs ifFit
 returns-2 c =
     let m = now (c .before .before .before .before .before .before .args .m) in
     rw (le-leb 9 (length m) (omega arith), le-ltb (at m 1) 0x10000 (omega arith)) (c .bad-numbers2 .ensures)
@@ -36,7 +36,7 @@ bad-numbers-requires-3 : tie.Need-bad-numbers-requires-3
 bad-numbers-requires-3 c κs = search needs
 
 returns-3 : tie.Need-returns-3
-unfolding heardDraft18
+unfolding heardAs ifFit
 returns-3 c =
     let m = now (c .before .before .before .before .before .before .before .args .m) in
     rw (le-leb 9 (length m) (omega arith), lt-ltb (at m 1) 0x10000 (omega arith), le-ltb (at m 4) 0x10000 (omega arith)) (c .bad-numbers3 .ensures)
@@ -69,7 +69,7 @@ shared-slice-read-t6 : tie.Need-shared-slice-read-t6
 shared-slice-read-t6 c = search needs
 
 returns-4 : tie.Need-returns-4
-unfolding heardDraft18
+unfolding heardAs ifFit
 returns-4 c =
     let m = now (c .before .before .before .before .before .before .before .before .before .before .before .before .before .args .m) in
     rw (le-leb 9 (length m) (omega arith), lt-ltb (at m 1) 0x10000 (omega arith), lt-ltb (at m 4) 0x10000 (omega arith), c .before .opt-view .ensures)

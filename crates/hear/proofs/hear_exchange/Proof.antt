@@ -6,7 +6,7 @@ use borrow.Author.Tests.{le-leb, lt-leb, ne-eqb}
 use lib.ListN.{length}
 use denote.Ref.{now}
 use Rattle.wire.specs.Parts.{ifSome}
-use Rattle.hear.specs.Heard.{at, bad, heardExchange}
+use Rattle.hear.specs.Heard.{at, bad, ifFit, heardAs}
 use borrow.Author.Needs.{needs}
 use Rattle.hear.proofs.hear_exchange.Statement.{statement}
 use Rattle.hear.proofs.hear_exchange.Tie as tie
@@ -20,7 +20,7 @@ bad-numbers-requires : tie.Need-bad-numbers-requires
 bad-numbers-requires c κs = search needs
 
 returns : tie.Need-returns
-unfolding heardExchange
+unfolding heardAs ifFit
 returns c =
     let m = now (c .before .before .before .args .m) in
     rw (lt-leb 4 (length m) (omega arith), either-way) (c .bad-numbers .ensures)
@@ -38,25 +38,25 @@ bad-numbers-requires-2 : tie.Need-bad-numbers-requires-2
 bad-numbers-requires-2 c κs = search needs
 
 returns-2 : tie.Need-returns-2
-unfolding heardExchange
+unfolding heardAs ifFit
 returns-2 c =
     let m = now (c .before .before .before .before .before .before .args .m) in
     rw (le-leb 4 (length m) (omega arith), c .match .keys1)
 
 returns-3 : tie.Need-returns-3
-unfolding heardExchange
+unfolding heardAs ifFit
 returns-3 c =
     let m = now (c .before .before .before .before .before .before .args .m) in
     rw (le-leb 4 (length m) (omega arith), c .match .keys2)
 
 returns-4 : tie.Need-returns-4
-unfolding heardExchange
+unfolding heardAs ifFit
 returns-4 c =
     let m = now (c .before .before .before .before .before .before .args .m) in
     rw (le-leb 4 (length m) (omega arith), c .match .keys3)
 
 returns-5 : tie.Need-returns-5
-unfolding heardExchange
+unfolding heardAs ifFit
 returns-5 c =
     let m = now (c .before .before .before .before .before .before .before .args .m) in
     let r = c .before .match .rest in

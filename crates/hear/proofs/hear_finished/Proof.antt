@@ -3,7 +3,7 @@ use native.Mathlib.Omega.{arith}
 use borrow.Author.Tests.{le-leb, lt-leb}
 use lib.ListN.{length}
 use denote.Ref.{now}
-use Rattle.hear.specs.Heard.{heardFinished}
+use Rattle.hear.specs.Heard.{ifFit, heardAs}
 use borrow.Author.Needs.{needs}
 use Rattle.hear.proofs.hear_finished.Statement.{statement}
 use Rattle.hear.proofs.hear_finished.Tie as tie
@@ -12,7 +12,7 @@ bad-numbers-requires : tie.Need-bad-numbers-requires
 bad-numbers-requires c κs = search needs
 
 returns : tie.Need-returns
-unfolding heardFinished
+unfolding heardAs ifFit
 returns c =
     let m = now (c .before .before .before .args .m) in
     rw (lt-leb 3 (length m) (omega arith)) (c .bad-numbers .ensures)
@@ -24,7 +24,7 @@ shared-slice-read-t7 : tie.Need-shared-slice-read-t7
 shared-slice-read-t7 c = search needs
 
 returns-2 : tie.Need-returns-2
-unfolding heardFinished
+unfolding heardAs ifFit
 returns-2 c =
     let m = now (c .before .before .before .before .args .m) in
     rw (le-leb 3 (length m) (omega arith))

@@ -3,7 +3,7 @@ use native.Mathlib.Omega.{arith}
 use borrow.Author.Tests.{le-leb, lt-leb, ne-eqb}
 use lib.ListN.{length}
 use denote.Ref.{now}
-use Rattle.hear.specs.Heard.{at, heard}
+use Rattle.hear.specs.Heard.{at, heardAs, heard}
 use borrow.Author.Needs.{needs}
 use Rattle.hear.proofs.hear_message.Statement.{statement}
 use Rattle.hear.proofs.hear_message.Tie as tie
@@ -39,7 +39,7 @@ unplaced-requires : tie.Need-unplaced-requires
 unplaced-requires c κs = search needs
 
 returns-2 : tie.Need-returns-2
-unfolding heard
+unfolding heard heardAs
 returns-2 c =
     let m = now (c .before .before .before .before .args .m) in
     rw (le-leb 1 (length m) (omega arith), c .match .keys1)
@@ -75,7 +75,7 @@ returns-7 c =
     rw (le-leb 1 (length m) (omega arith), c .before .match .keys6) (c .hear-draft18 .ensures)
 
 returns-8 : tie.Need-returns-8
-unfolding heard
+unfolding heard heardAs
 returns-8 c =
     let m = now (c .before .before .before .before .before .args .m) in
     let r = c .before .match .rest in

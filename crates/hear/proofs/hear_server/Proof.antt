@@ -3,7 +3,7 @@ use native.Mathlib.Omega.{arith}
 use borrow.Author.Tests.{le-leb, lt-leb, lt-ltb, le-ltb}
 use lib.ListN.{length}
 use denote.Ref.{now}
-use Rattle.hear.specs.Heard.{at, heardServer}
+use Rattle.hear.specs.Heard.{at, ifFit, heardAs}
 use borrow.Author.Needs.{needs}
 use Rattle.hear.proofs.hear_server.Statement.{statement}
 use Rattle.hear.proofs.hear_server.Tie as tie
@@ -12,7 +12,7 @@ bad-numbers-requires : tie.Need-bad-numbers-requires
 bad-numbers-requires c κs = search needs
 
 returns : tie.Need-returns
-unfolding heardServer
+unfolding heardAs ifFit
 returns c =
     let m = now (c .before .before .before .args .m) in
     rw (lt-leb 13 (length m) (omega arith)) (c .bad-numbers .ensures)
@@ -30,7 +30,7 @@ bad-numbers-requires-2 : tie.Need-bad-numbers-requires-2
 bad-numbers-requires-2 c κs = search needs
 
 returns-2 : tie.Need-returns-2
-unfolding heardServer
+unfolding heardAs ifFit
 returns-2 c =
     let m = now (c .before .before .before .before .before .before .before .args .m) in
     rw (le-leb 13 (length m) (omega arith), le-ltb (at m 1) 0x10000 (omega arith)) (c .bad-numbers2 .ensures)
@@ -39,7 +39,7 @@ bad-numbers-requires-3 : tie.Need-bad-numbers-requires-3
 bad-numbers-requires-3 c κs = search needs
 
 returns-3 : tie.Need-returns-3
-unfolding heardServer
+unfolding heardAs ifFit
 returns-3 c =
     let m = now (c .before .before .before .before .before .before .before .before .args .m) in
     rw (le-leb 13 (length m) (omega arith), lt-ltb (at m 1) 0x10000 (omega arith), le-ltb (at m 7) 0x10000 (omega arith)) (c .bad-numbers3 .ensures)
@@ -48,7 +48,7 @@ bad-numbers-requires-4 : tie.Need-bad-numbers-requires-4
 bad-numbers-requires-4 c κs = search needs
 
 returns-4 : tie.Need-returns-4
-unfolding heardServer
+unfolding heardAs ifFit
 returns-4 c =
     let m = now (c .before .before .before .before .before .before .before .before .before .args .m) in
     rw (le-leb 13 (length m) (omega arith), lt-ltb (at m 1) 0x10000 (omega arith), lt-ltb (at m 7) 0x10000 (omega arith), le-ltb (at m 8) 0x100 (omega arith)) (c .bad-numbers4 .ensures)
@@ -96,7 +96,7 @@ shared-slice-read-t8 : tie.Need-shared-slice-read-t8
 shared-slice-read-t8 c = search needs
 
 returns-5 : tie.Need-returns-5
-unfolding heardServer
+unfolding heardAs ifFit
 returns-5 c =
     let m = now (c .before .before .before .before .before .before .before .before .before .before .before .before .before .before .before .before .before .before .before .args .m) in
     rw (le-leb 13 (length m) (omega arith), lt-ltb (at m 1) 0x10000 (omega arith), lt-ltb (at m 7) 0x10000 (omega arith), lt-ltb (at m 8) 0x100 (omega arith), c .before .before .before .before .before .opt-view .ensures, c .before .opt-view2 .ensures)
