@@ -20,12 +20,12 @@ use Rattle.grammar.specs.Grammars.{How, asView, asNumber, Row, Views}
 use Rattle.grammar.specs.Reading.{fieldsAt, lastAt, withLast}
 use Rattle.grammar.specs.Forms.{valueOf, reading}
 use Rattle.grammar.proofs.Chain.{begin-on}
-use Rattle.list.proofs.Walk.{Moves, rest}
+use Rattle.list.proofs.Walk.{Moves, rest, fuel}
 use Rattle.record.specs.Records.{raw, fragment}
 use Rattle.record.specs.declared.TlsRawRecord.{TlsRawRecord}
 use Rattle.walk.specs.Walks.{messages}
 use Rattle.walk.proofs.Walking.{every-walk}
-use Rattle.capture.specs.Captures.{viewIn, recordFrom, messagesIn}
+use Rattle.capture.specs.Captures.{viewIn, recordFrom, messagesIn, NoRecordMore}
 
 -- the part of a view that lies within the bytes, and of one that does not
 part-is : (s : List ℕ) (v : View) → v .start + v .len ≤ length s → partOf s v ≡ take (v .len) (drop (v .start) s)
@@ -110,6 +110,9 @@ from-lies s at {r} e =
 
 pub by-records : (s : List ℕ) → Moves (recordFrom s) (λ (r : TlsRawRecord). r .next) (length s)
 by-records s = record { on = λ at r e. let i = from-lies s at e in (omega arith, i .1) }
+
+pub no-record-more : (s : List ℕ) → NoRecordMore s
+no-record-more s n h = fuel (by-records s) n (length s) 0 (omega arith) (omega arith)
 
 -- what is left of the records at a place
 abbrev pub left : List ℕ → ℕ → List TlsRawRecord

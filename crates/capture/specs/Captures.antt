@@ -1,6 +1,6 @@
 -- Joined records: the record at a place, all of them from the front on, and places counted from there. What the program `look` counts by;
 -- document 01 asks for no such reader, its records are those of `record/specs/Records.antt`.
-use Rattle.refusal.specs.{ℕ, _+_, List, foldl, foldr, length, drop, eqb, Answer, giving}
+use Rattle.refusal.specs.{ℕ, _+_, List, foldl, foldr, length, drop, eqb, Answer, giving, _≤_, _≡_}
 use Rattle.wire.specs.{pick, partOf, View, liesIn}
 use Rattle.grammar.specs.{reading}
 use Rattle.list.specs.{itemsFrom}
@@ -21,9 +21,13 @@ recordFrom s at =
     giving (λ r. record { hdr = r .hdr; «data» = record { start = at + r .«data» .start; len = r .«data» .len }; next = at + r .next })
     (reading raw (drop at s))
 
--- all of them, until one is refused: each takes five bytes at least
+-- all of them, until one is refused: each takes five bytes at least, so that the bound never ends them (`NoRecordMore`)
 abbrev pub records : List ℕ → List TlsRawRecord
 records s = itemsFrom (length s) (recordFrom s) (λ r. r .next) 0
+
+-- by a larger bound no more are found
+abbrev pub NoRecordMore : List ℕ → Type 0
+NoRecordMore s = (n : ℕ) → length s ≤ n → itemsFrom n (recordFrom s) (λ r. r .next) 0 ≡ records s
 
 -- how many messages a record holds: one of another type than 0x16 is not opened and holds none
 unfoldable pub messagesIn : List ℕ → TlsRawRecord → ℕ

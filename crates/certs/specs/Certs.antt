@@ -26,8 +26,8 @@ status = record {
 }
 
 -- "long form is type count 1, types, length 2 and signature pairs, length 2 and names (length 2, bytes each). The short form lacks the
--- signature pairs": RFC 5246 7.4.4 and RFC 4346 7.4.4. In the place of the pairs the short form has a field of no bytes, which is handed out
--- as absent. Types are items `fixed 1` of their part, pairs `fixed 2`, names `sized 2`
+-- signature pairs": RFC 5246 7.4.4 and RFC 4346 7.4.4. In the place of the pairs the short form has a field of no bytes, which is handed
+-- out as absent. Types are items `fixed 1` of their part, pairs `fixed 2`, names `sized 2`
 abbrev pub request : Bool → Form TlsCertificateRequestContents
 request long = record {
   grammar = record { rows = (sized 1, asView) ∷ (pick long (sized 2) (fixed 0), asOpt long) ∷ (sized 2, asView) ∷ []; block = none };

@@ -1,5 +1,6 @@
--- Everything that is claimed beyond the contracts of single functions: one field for each theorem. `claims::all_claims` promises them all,
--- so that none can go missing.
+-- Everything that is claimed beyond the contracts of single functions, of the forms, lists, messages and records of this code: one field
+-- for each theorem. `claims::all_claims` promises them all, so that none can go missing. `EveryForm` and `EveryListing`
+-- (`grammar/specs/Demand3.antt`), over all contents, are what the fields of demand 3 are shown by, and have no field.
 use Rattle.refusal.specs.{ℕ, _≤_, _≡_, Bool, List, getD, RefT, NumbersApart, accepted, OneResult}
 use Rattle.wire.specs.{partOf, partSays, Bytes, numberSays, EachUndoes, writeSays, View}
 use Rattle.field.specs.{Field, fixed, sized, least}
@@ -18,7 +19,7 @@ use Rattle.envelope.specs.{headSays, opened}
 use Rattle.walk.specs.Walking.{Walking}
 use Rattle.record.specs.{raw, headerSays, rawSays, encryptedSays}
 use Rattle.plaintext.specs.{plaintextSays, openedSays}
-use Rattle.capture.specs.Captures.{viewIn}
+use Rattle.capture.specs.Captures.{viewIn, NoRecordMore}
 use Rattle.tell.specs.Messages.{messageNumbers}
 use Rattle.hear.specs.{heard, Holds, again}
 use Rattle.readings.specs.Readings.{rows, ownRows, AllRead}
@@ -57,7 +58,8 @@ pub record Claims : Type 0 where
   pub oneOpened : OneResult openedSays
   -- numbers and their bytes, of every width
   pub numbers : (w : ℕ) → EachUndoes w
-  -- demand 3, its reading half, of the three hellos: by their grammars, a ServerHello by its version, and both as messages
+  -- demand 3, its reading half, of the three hellos: by their grammars, a ServerHello by its version, and which of the two
+  -- ServerHellos a message is
   pub readsClient : OfBytes (BySplit client)
   pub readsServer : (hasExt : Bool) → OfBytes (BySplit (server hasExt))
   pub readsDraft18 : OfBytes (BySplit draft18)
@@ -75,7 +77,8 @@ pub record Claims : Type 0 where
   pub againServer : (hasExt : Bool) → OfBytes (λ s. (c : TlsServerHelloContents) → ReadsAgain (server hasExt) s c)
   pub againDraft18 : OfBytes (λ s. (c : TlsServerHelloV13Draft18Contents) → ReadsAgain draft18 s c)
   pub againByVersion : AgainByVersion
-  -- lists: of every element, which the bound never ends, and those that are handed out: names, certificates, methods and types, ciphers and signature pairs
+  -- lists: of the items of every field that takes a byte at least; that the bound never ends one; and those that are handed out: names,
+  -- certificates, methods and types, ciphers and signature pairs
   pub lists : (f : Field) → 1 ≤ least f → OfBytes (ByItems f)
   pub noneMore : NoneMore
   pub names : OfBytes (ByItems (sized 2))
@@ -90,8 +93,9 @@ pub record Claims : Type 0 where
   pub splitsRetry : OfBytes (BySplit retry)
   pub splitsNextProtocol : OfBytes (BySplit nextProtocol)
   pub ticket : (n : ℕ) → OfBytes (OfTicket n)
-  -- records, the walk over one, the reader that holds its list, and a part of a part as a part of the whole
+  -- records, joined ones, the walk over one, the reader that holds its list, and a part of a part as a part of the whole
   pub splitsRecord : OfBytes (BySplit raw)
+  pub noRecordMore : (s : List ℕ) → NoRecordMore s
   pub walks : (content : List ℕ) → Walking content
   pub readers : (l : RefT (List ℕ)) → SameItems l
   pub sameBytes : (s : List ℕ) (outer inner : View) → partOf s (viewIn s outer inner) ≡ partOf (partOf s outer) inner

@@ -1,5 +1,5 @@
--- The head of a message, what its type opens, and the message: document 01, "The other handshake bodies"; RFC 5246 7.4. "Length and body are
--- taken before the type is looked at."
+-- The head of a message, what its type opens, and the message: document 01, "The other handshake bodies"; RFC 5246 7.4. "Length and body
+-- are taken before the type is looked at."
 use Rattle.refusal.specs.{ℕ, List, [], _∷_, length, refusal, unplaced, Answer, accepted, refused, then, giving, within, Switch}
 use Rattle.wire.specs.{partOf, lookup, ifSome, numberAt}
 use Rattle.field.specs.{step, sized}

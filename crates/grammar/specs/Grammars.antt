@@ -4,8 +4,8 @@ use Rattle.refusal.specs.{ℕ, List, [], _∷_, Bool, Option}
 use Rattle.wire.specs.{OptView, View}
 use Rattle.field.specs.{Field}
 
--- a field is handed out as a view, as a part that may be absent (`asOpt true`: an empty one is present; `asOpt false`: it is absent), or as a
--- number of w bytes
+-- a field is handed out as a view, as a part that may be absent (`asOpt true`: an empty one is present; `asOpt false`: it is absent), or as
+-- a number of w bytes
 pub data How : Type 0 where
   asView : How
   asOpt : Bool → How

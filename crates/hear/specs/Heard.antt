@@ -1,6 +1,7 @@
--- The message that numbers tell of, to be written: `tell/specs/Messages.antt` the other way. A kind that is not written is
--- NotYetImplemented; then numbers that are too few, or that their fields cannot hold, are BadLength. A mark other than 0 is a part that is
--- there; further numbers are not looked at.
+-- The message that numbers tell of, to be written: `tell/specs/Messages.antt` the other way. Document 01 has no such rule; its refusals are
+-- used. A kind that is not written is NotYetImplemented; then too few numbers, a number that its field cannot hold, and a form of a key
+-- exchange other than 0 (raw), 1 (Diffie-Hellman) and 2 (elliptic curve) are BadLength. A mark other than 0 is a part that is there;
+-- further numbers are not looked at.
 use Rattle.refusal.specs.{ℕ, _+_, Bool, _&&_, List, [], _∷_, length, getD, eqb, leb, ltb, Answer, accepted, refused, unplaced, BadLength, NotYetImplemented}
 use Rattle.wire.specs.{pick, lookup, ifSome, View, OptView, Absent, Present}
 use Rattle.message.specs.{Dh, Ecdh, Unknown, TlsMessageHandshake, HelloRequest, ClientHello, ServerHello, ServerHelloV13Draft18, ClientKeyExchange, Finished}

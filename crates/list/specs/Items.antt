@@ -9,8 +9,8 @@ abbrev pub goOn : {A : Type 0} → Answer A → (A → List A) → List A
 goOn (accepted x) k = x ∷ k x
 goOn (refused r) k = []
 
--- the items from the byte `at` on, one behind the other until none is found: `find` looks at a byte, `past x` is the byte past x. At most n of
--- them: a bound for the recursion, which never ends a list (`NoneMore`)
+-- the items from the byte `at` on, one behind the other until none is found: `find` looks at a byte, `past x` is the byte past x. At most n
+-- of them: a bound for the recursion. Where each takes a byte at least, the length of the bytes never ends a list (`NoneMore`)
 unfoldable pub itemsFrom : {A : Type 0} → ℕ → (ℕ → Answer A) → (A → ℕ) → ℕ → List A
 itemsFrom zero find past at = []
 itemsFrom (suc n) find past at = goOn (find at) (λ x. itemsFrom n find past (past x))
@@ -29,7 +29,7 @@ orNoSuch a = orElse a (refused (refusal NoSuch 0 0))
 unfoldable pub itemFrom : Field → List ℕ → ℕ → Answer Part
 itemFrom f s at = orNoSuch (step f s at)
 
--- all of them: each takes a byte at least
+-- all of them, for a field that takes a byte at least
 abbrev pub items : Field → List ℕ → List Part
 items f s = itemsFrom (length s) (step f s) (λ p. p .next) 0
 

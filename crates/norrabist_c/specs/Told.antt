@@ -1,5 +1,5 @@
--- What an export answers. The numbers of a value are put into the lent array as a text is into an output (`wire/specs/Puts.antt`): the
--- answer is the paper's number, 0 where all of them are in; a refusal, NoRoom among them, changes nothing.
+-- What an export answers; document 01 has no such rule. The numbers of a value are put into the lent array as a text is into an output
+-- (`wire/specs/Puts.antt`): the answer is the paper's number, 0 where all of them are in; a refusal, NoRoom among them, changes nothing.
 use Rattle.refusal.specs.{ℕ, List, [], _∷_, _++_, Answer, accepted, refused, then, numberIn}
 use Rattle.wire.specs.{room}
 use Rattle.genmessage.specs.Messages.{handshakeText}

@@ -8,14 +8,14 @@ use borrow.Author.Tests.{eqb-true}
 use lib.Dec.{eqb}
 use lib.ListN.{take, drop}
 use Rattle.refusal.specs.Answers.{Answer, accepted, refused, numberIn}
-use Rattle.refusal.specs.Refusals.{numberOf}
+use Rattle.refusal.specs.Refusals.{numberOf, OneOf}
 use Rattle.refusal.specs.declared.Reason.{Reason}
 use Rattle.refusal.specs.declared.Reason.the-variants.{Incomplete, Complete, Verify, Tag, Switch, TooLarge, Elsewhere, NoSuch}
 use Rattle.refusal.proofs.Told.{its-reason}
 use Rattle.wire.specs.Parts.{pick}
 use Rattle.wire.specs.Numbers.{be}
 use Rattle.list.specs.Items.{orNoSuch}
-use Rattle.readcases.specs.Readers.{All, _&_, end, Check, OneOf, ofMessage, inOrder, beside, clientCase, serverCase, byVersionCase, draft18Case, serverMessageCase, retryCase, ticketCase, certificateCase, requestCase, statusCase, nextProtocolCase, keyUpdateCase, wholeCase, openedCase, bodyCase, metCase, recordTypeCase, plaintextCase, placeCase, walkCase}
+use Rattle.readcases.specs.Readers.{All, _&_, end, Check, ofMessage, inOrder, beside, clientCase, serverCase, byVersionCase, draft18Case, serverMessageCase, retryCase, ticketCase, certificateCase, requestCase, statusCase, nextProtocolCase, keyUpdateCase, wholeCase, openedCase, bodyCase, metCase, recordTypeCase, plaintextCase, placeCase, walkCase}
 
 -- the number is 0 or that of one of these, with the list in sight
 pub record Only (whys : List Reason) (n : ℕ) : Type 0 where

@@ -7,7 +7,7 @@ use mathlib.Core.Bool.{Bool, true, false}
 use mathlib.Core.Option.{Option, none, some}
 use native.Mathlib.Omega.{arith}
 use borrow.Author.Tests.{leb-true, leb-false, eqb-false, lt-ltb, ltb-true}
-use lib.ListN.{length}
+use lib.ListN.{length, drop}
 use lib.Dec.{leb, ltb, eqb}
 use Rattle.refusal.specs.Answers.{Answer, accepted, refused, then, giving, within, numberIn}
 use Rattle.refusal.specs.Refusals.{numberOf, refusal, unplaced}
@@ -27,6 +27,7 @@ use Rattle.grammar.specs.Forms.{reading, byVersion, ifListed}
 use Rattle.list.specs.Items.{items, itemsFrom, place, itemFrom, numberPlace, orNoSuch}
 use Rattle.list.proofs.Walk.{place-past, place-below}
 use Rattle.list.proofs.Fixed.{count-of}
+use Rattle.hello.specs.Start.{start}
 use Rattle.client.specs.Client.{client}
 use Rattle.server.specs.Server.{server, serverVersions, draft18}
 use Rattle.certs.specs.Certs.{certificate, request, certificateRequest, status}
@@ -43,7 +44,8 @@ use Rattle.record.specs.Records.{header, raw, encrypted}
 use Rattle.record.specs.declared.TlsRawRecord.{TlsRawRecord}
 use Rattle.plaintext.specs.declared.TlsPlaintextOpened.{TlsPlaintextOpened}
 use Rattle.plaintext.specs.Plaintext.{firstRefusal, asFirst, plainRecord, handshakes, otherType, openedFirst, plaintext}
-use Rattle.readcases.specs.Readers.{_&_, end, inOrder, less, over, beside, clientCase, serverCase, byVersionCase, draft18Case, serverMessageCase, retryCase, ticketCase, certificateCase, requestCase, statusCase, nextProtocolCase, keyUpdateCase, wholeCase, openedCase, bodyCase, headChecks, headCase, metCase, headerCase, rawCase, ofFirst, recordTypeCase, plaintextCase, placeCase, itemCase, itemCount, walkCase}
+use Rattle.capture.specs.Captures.{recordFrom}
+use Rattle.readcases.specs.Readers.{_&_, end, inOrder, less, over, beside, clientCase, startCase, serverCase, byVersionCase, draft18Case, serverMessageCase, retryCase, ticketCase, certificateCase, requestCase, statusCase, nextProtocolCase, keyUpdateCase, wholeCase, openedCase, bodyCase, headChecks, headCase, metCase, headerCase, rawCase, ofFirst, recordTypeCase, plaintextCase, placeCase, itemCase, itemCount, walkCase}
 use Rattle.readcases.proofs.Checks.{number-on, number-within, number-else, number-pick, then-assoc, not-leb, not-even, by-test, fewer-first, part-taken, number-then, fixed-then, counted-then, form-then, form-number, by-number, outside, either-side}
 
 pub client-hello : (s : List ℕ) → numberIn (reading client s) ≡ clientCase s
@@ -56,6 +58,10 @@ client-hello s =
     let verify = by-test (leb id 32) (λ at behind. refusal Verify at 0) 34 35 (its-reason Verify 34 0) in
     let even = by-test (eqb (cs % 2) 0) (λ at behind. refusal LengthValue behind 0) (35 + id) (37 + id) (its-reason LengthValue (37 + id) 0) in
     rw (form-number client s, a, b, verify, even, not-leb, not-even)
+
+pub start-hello : (s : List ℕ) → numberIn (reading start s) ≡ startCase s
+unfolding startCase inOrder
+start-hello s = rw (form-number start s, by-test (leb (be 1 s 34) 32) (λ at behind. refusal Verify at 0) 34 35 (its-reason Verify 34 0), not-leb)
 
 pub server-hello : (hasExt : Bool) (s : List ℕ) → numberIn (reading (server hasExt) s) ≡ serverCase s
 unfolding serverCase inOrder
@@ -248,6 +254,12 @@ raw-record s = rw (form-number raw s, by-test (leb (be 2 s 3) 16640) (λ at behi
 pub encrypted-record : (s : List ℕ) → numberIn (encrypted s) ≡ rawCase s
 unfolding encrypted
 encrypted-record s = number-on (reading raw s) (λ r. record { hdr = r .hdr; msg = record { blob = r .«data» }; next = r .next }) ∙ raw-record s
+
+pub record-at : (at : ℕ) (s : List ℕ) → numberIn (recordFrom s at) ≡ rawCase (drop at s)
+unfolding recordFrom
+record-at at s =
+    number-on (reading raw (drop at s)) (λ r. record { hdr = r .hdr; «data» = record { start = at + r .«data» .start; len = r .«data» .len }; next = at + r .next })
+    ∙ raw-record (drop at s)
 
 -- Incomplete from the first message becomes Complete
 first-number : {A : Type 0} (at : ℕ) (x : Answer A) → numberIn (asFirst at x) ≡ ofFirst (numberIn x)

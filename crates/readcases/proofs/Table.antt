@@ -16,8 +16,8 @@ use Rattle.wire.specs.Numbers.{be}
 use Rattle.field.specs.Fields.{step}
 use Rattle.list.specs.Items.{items, itemsFrom, itemFrom}
 use Rattle.list.proofs.Fixed.{count-of}
-use Rattle.readcases.specs.Readers.{Check, inOrder, under, beside, clientCase, serverCase, byVersionCase, draft18Case, serverMessageCase, retryCase, ticketCase, certificateCase, requestCase, statusCase, nextProtocolCase, keyUpdateCase, wholeCase, openedCase, bodyCase, headCase, metCase, headerCase, rawCase, recordTypeCase, plaintextCase, placeCase, itemCase, itemCount, walkCase, All, _&_, end, Gives, ofMessage, Readers}
-use Rattle.readcases.proofs.Readers.{client-hello, server-hello, server-by-version, draft18-hello, of-retry, of-ticket, of-certificate, of-request, of-status, of-next-protocol, server-as, key-update, whole-as, opens, opens-all, heads, meets, meets-head, message-first, record-header, raw-record, encrypted-record, plaintext-record, plaintext-opened, number-place, items-from-place, item-places, number-places, any-number-place, numbers, walks}
+use Rattle.readcases.specs.Readers.{Check, inOrder, under, beside, startCase, clientCase, serverCase, byVersionCase, draft18Case, serverMessageCase, retryCase, ticketCase, certificateCase, requestCase, statusCase, nextProtocolCase, keyUpdateCase, wholeCase, openedCase, bodyCase, headCase, metCase, headerCase, rawCase, recordTypeCase, plaintextCase, placeCase, itemCase, itemCount, walkCase, All, _&_, end, Gives, ofMessage, Readers}
+use Rattle.readcases.proofs.Readers.{client-hello, start-hello, server-hello, server-by-version, draft18-hello, of-retry, of-ticket, of-certificate, of-request, of-status, of-next-protocol, server-as, key-update, whole-as, opens, opens-all, heads, meets, meets-head, message-first, record-header, raw-record, encrypted-record, record-at, plaintext-record, plaintext-opened, number-place, items-from-place, item-places, number-places, any-number-place, numbers, walks}
 use Rattle.readcases.proofs.Only.{Only, checks-only, only-order, server-message-only, opened-only, met-only, plaintext-only, place-only, walk-only, no-such}
 
 -- a ClientHello with a cipher length of 1
@@ -113,9 +113,10 @@ records =
     & end
 
 pub every-reading : Readers
-unfolding clientCase serverCase byVersionCase draft18Case serverMessageCase retryCase ticketCase certificateCase requestCase statusCase nextProtocolCase keyUpdateCase wholeCase openedCase bodyCase
+unfolding startCase clientCase serverCase byVersionCase draft18Case serverMessageCase retryCase ticketCase certificateCase requestCase statusCase nextProtocolCase keyUpdateCase wholeCase openedCase bodyCase
     headCase metCase headerCase rawCase itemCase walkCase itemFrom
 every-reading = record {
+  helloStart = row start-hello (λ s. checks-only _ refl) (unfold inOrder be in ([], refl) & (longId, refl) & end);
   clientHello = row client-hello (λ s. checks-only _ refl) (unfold inOrder be in ([], refl) & (longId, refl) & (oddCiphers, refl) & end);
   serverHello = λ hasExt. row (server-hello hasExt) (λ s. checks-only _ refl) (unfold inOrder be in ([], refl) & (longId, refl) & end);
   serverByVersion =
@@ -146,6 +147,7 @@ every-reading = record {
   recordHeader = row record-header (λ s. checks-only _ refl) (unfold inOrder in ([], refl) & end);
   rawRecord = row raw-record (λ s. checks-only _ refl) (unfold inOrder be in ([], refl) & (tooLarge, refl) & end);
   encryptedRecord = row encrypted-record (λ s. checks-only _ refl) (unfold inOrder be in ([], refl) & (tooLarge, refl) & end);
+  recordAt = row (λ (at, s). record-at at s) (λ (at, s). checks-only _ refl) (unfold inOrder be in ((0, []), refl) & ((0, tooLarge), refl) & end);
   plaintextRecord = row plaintext-record plaintext-only records;
   plaintextOpened = row plaintext-opened plaintext-only records;
   places = λ f k. row (λ s. number-place k (items f s)) (λ s. place-only k _) (unfold itemsFrom in ([], none-there k) & end);

@@ -1,11 +1,13 @@
 -- Document 01, "What the tap says when it says no": "Each is given only then". The rules of reading a second time, straight from that
--- document: for each reader the paper's number, by places and lengths in the bytes lent, with no field, rule, grammar or step in it. At the
--- end, `Readers`, a table: each reader, its case, its refusals. Shown by `proofs/Table.antt`.
-use Rattle.refusal.specs.{ℕ, zero, suc, _+_, _/_, _%_, _≤_, _≡_, _⊎_, List, [], _∷_, Bool, length, take, drop, leb, ltb, eqb, Answer, numberIn, numberOf, Reason, Incomplete, Complete, Verify, LengthValue, Tag, Switch, TooLarge, Elsewhere, NoSuch}
+-- document: for each reader the paper's number, by places and lengths in the bytes lent, with no field, rule, grammar or step in it;
+-- `places` alone, of any field's items, takes their count from `items`. At the end, `Readers`, a table: each reader, its case, its
+-- refusals. Shown by `proofs/Table.antt`.
+use Rattle.refusal.specs.{ℕ, zero, suc, _+_, _/_, _%_, _≤_, _≡_, List, [], _∷_, Bool, length, take, drop, leb, ltb, eqb, Answer, numberIn, numberOf, Reason, Incomplete, Complete, Verify, LengthValue, Tag, Switch, TooLarge, Elsewhere, NoSuch, OneOf}
 use Rattle.wire.specs.{pick, be, numberAt, View}
 use Rattle.field.specs.{Field, sized}
 use Rattle.grammar.specs.{reading, byVersion}
 use Rattle.list.specs.{items, place, itemFrom, numberPlace}
+use Rattle.hello.specs.Start.{start}
 use Rattle.client.specs.{client}
 use Rattle.server.specs.{server, serverVersions, draft18}
 use Rattle.certs.specs.{certificate, certificateRequest, status}
@@ -17,6 +19,7 @@ use Rattle.envelope.specs.{headAt, opened, byType, metAt, message}
 use Rattle.walk.specs.{metHead, nextMessage, TlsRecordWalk}
 use Rattle.record.specs.{header, raw, encrypted}
 use Rattle.plaintext.specs.{plaintext, openedFirst}
+use Rattle.capture.specs.Captures.{recordFrom}
 
 -- a check: where it holds, this is the refusal
 abbrev pub Check : Type 0
@@ -59,6 +62,12 @@ clientCase s =
     ∷ under s (38 + id + cs + ms) LengthValue
     ∷ [])
     0
+
+-- what both hellos begin with: version 2, random 32, id length 1 (0 to 32), id
+unfoldable pub startCase : List ℕ → ℕ
+startCase s =
+    let id = be 1 s 34 in
+    inOrder (under s 35 Incomplete ∷ over id 32 Verify ∷ under s (35 + id) Incomplete ∷ []) 0
 
 -- ServerHello, whatever its version: version 2, random 32, id length and id as above, cipher 2, compression 1
 unfoldable pub serverCase : List ℕ → ℕ
@@ -123,7 +132,8 @@ unfoldable pub beside : ℕ → List (ℕ × ℕ) → ℕ → ℕ
 beside k [] other = other
 beside k ((t, c) ∷ rest) other = pick (eqb k t) c (beside k rest other)
 
--- a body by its type k: "The type decides", and "All others, 0x03, 0x08 and 0x15 among them: Switch"; n is the length where one is handed over
+-- a body by its type k: "The type decides", and "All others, 0x03, 0x08 and 0x15 among them: Switch"; n is the length where one is handed
+-- over
 unfoldable pub openedCase : ℕ → ℕ → List ℕ → ℕ
 openedCase k n s =
     beside k
@@ -197,7 +207,8 @@ placeCase k count = inOrder ((leb count k, NoSuch) ∷ []) 0
 unfoldable pub itemCase : ℕ → ℕ → List ℕ → ℕ
 itemCase w at s = inOrder (under s (at + w) NoSuch ∷ under s (at + w + be w s at) NoSuch ∷ []) 0
 
--- how many of them stand from a place on: "A list inside its announced length ends at the first item that does not fit"
+-- how many of them stand from a place on, `most` a bound for the recursion: "A list inside its announced length ends at the first item that
+-- does not fit"
 unfoldable pub itemCount : ℕ → ℕ → ℕ → List ℕ → ℕ
 itemCount zero w at s = 0
 itemCount (suc most) w at s = pick (eqb (itemCase w at s) 0) (suc (itemCount most w (at + w + be w s at) s)) 0
@@ -206,18 +217,14 @@ itemCount (suc most) w at s = pick (eqb (itemCase w at s) 0) (suc (itemCount mos
 unfoldable pub walkCase : ℕ → List ℕ → ℕ
 walkCase at s = pick (eqb (metCase at s) 0) 0 (numberOf NoSuch)
 
--- the number is 0, or that of one of these
-abbrev pub OneOf : List Reason → ℕ → Type 0
-OneOf [] n = n ≡ 0
-OneOf (why ∷ whys) n = (n ≡ numberOf why) ⊎ OneOf whys n
-
 infixr 60 _&_
 -- of each of a list, in order
 pub data All {A : Type 0} (P : A → Type 0) : List A → Type 0 where
   end : All P []
   _&_ : {x : A} {xs : List A} → P x → All P xs → All P (x ∷ xs)
 
--- a reader, its case, its refusals: whatever is lent, its number is that of the case and it gives no other refusal; and it gives each of them
+-- a reader, its case, its refusals: whatever is lent, its number is that of the case and it gives no other refusal; and it gives each of
+-- them
 pub record Gives {L A : Type 0} (reader : L → Answer A) (case : L → ℕ) (whys : List Reason) : Type 0 where
   pub equal : (lent : L) → numberIn (reader lent) ≡ case lent
   pub only : (lent : L) → OneOf whys (numberIn (reader lent))
@@ -233,7 +240,8 @@ ofMessage = Incomplete ∷ Complete ∷ Verify ∷ LengthValue ∷ Tag ∷ Switc
 
 -- every reader, its case, its refusals
 pub record Readers : Type 0 where
-  -- the hellos
+  -- the hellos, and what two of them begin with
+  pub helloStart : Gives (reading start) startCase (Incomplete ∷ Verify ∷ [])
   pub clientHello : Gives (reading client) clientCase (Incomplete ∷ Verify ∷ LengthValue ∷ [])
   pub serverHello : (hasExt : Bool) → Gives (reading (server hasExt)) serverCase (Incomplete ∷ Verify ∷ [])
   pub serverByVersion : Gives (byVersion serverVersions) byVersionCase (Incomplete ∷ Verify ∷ Tag ∷ [])
@@ -260,6 +268,7 @@ pub record Readers : Type 0 where
   pub recordHeader : Gives header headerCase (Incomplete ∷ [])
   pub rawRecord : Gives (reading raw) rawCase (Incomplete ∷ TooLarge ∷ [])
   pub encryptedRecord : Gives encrypted rawCase (Incomplete ∷ TooLarge ∷ [])
+  pub recordAt : GivesTold (λ at s. recordFrom s at) (λ at s. rawCase (drop at s)) (Incomplete ∷ TooLarge ∷ [])
   pub plaintextRecord : Gives plaintext plaintextCase (TooLarge ∷ Elsewhere ∷ ofMessage)
   pub plaintextOpened : Gives openedFirst plaintextCase (TooLarge ∷ Elsewhere ∷ ofMessage)
   -- list places: of any field's items, of items (length w, bytes), of numbers of w bytes

@@ -1,5 +1,6 @@
 -- Document 01, "Readings to keep on the bench", all eighteen rows in one table; and readings of our own in a second one: a message of each
--- type but 0x00, which row 13 has, a ServerHello of each version, a record of each type. Bytes are written by their number: `03 000001` is `bytesOf 4 0x03_000001`.
+-- type but 0x00, which row 13 has, a ServerHello of each version, a record of each type. Bytes are written by their number: `03 000001` is
+-- `bytesOf 4 0x03_000001`.
 use Rattle.refusal.specs.{ℕ, _≡_, List, [], _∷_, _++_, Option, none, some, replicate, numberOf, Answer, accepted, then, numberIn, valuesIn, Reason, Incomplete, Complete, Verify, LengthValue, Tag, Switch, TooLarge, Elsewhere, NoSuch}
 use Rattle.wire.specs.{partOf, bytesOf, OptView, Absent, Present, View}
 use Rattle.field.specs.{sized}
@@ -30,8 +31,8 @@ abbrev pub reject : {A : Type 0} → ℕ → (List ℕ → Answer A) → List �
 reject {A} n call s why = record { row = n; Value = A; call = call; input = s; number = numberOf why; values = none }
 
 -- a function is told by what its contract says: `reading client` is `parse_tls_handshake_client_hello`, `byVersion serverVersions` and
--- `certificateRequest` are those of their bodies, `message` is `parse_tls_message_handshake`, `plaintext` is `parse_tls_plaintext`; and this
--- one hands what is read as a ClientHello to `gen_tls_clienthello`
+-- `certificateRequest` are those of their bodies, `message` is `parse_tls_message_handshake`, `plaintext` is `parse_tls_plaintext`; and
+-- this one hands what is read as a ClientHello to `gen_tls_clienthello`
 abbrev pub writtenBack : List ℕ → Answer (List ℕ)
 writtenBack s = then (reading client s) (λ c. messageText (headText 0x01) (helloText client s c))
 

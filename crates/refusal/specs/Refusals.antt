@@ -1,5 +1,5 @@
 -- Document 01, "What the tap says when it says no": the table's numbers, and what a refusal is made from.
-use Rattle.refusal.specs.Words.{ℕ, _≡_}
+use Rattle.refusal.specs.Words.{ℕ, _≡_, _⊎_, List, [], _∷_}
 use Rattle.refusal.specs.declared.{Reason.Reason, Refusal.Refusal}
 use Rattle.refusal.specs.declared.Reason.the-variants.{Incomplete, Complete, Verify, LengthValue, Tag, Switch, TooLarge, BadLength, NoRoom, Elsewhere, NoSuch, NotYetImplemented}
 
@@ -21,6 +21,11 @@ numberOf NotYetImplemented = 12
 pub record NumbersApart : Type 0 where
   pub apart : (r t : Reason) → numberOf r ≡ numberOf t → r ≡ t
   pub notZero : (r : Reason) → 0 ≡ numberOf r → ⊥
+
+-- a number is 0, or that of one of these
+abbrev pub OneOf : List Reason → ℕ → Type 0
+OneOf [] n = n ≡ 0
+OneOf (why ∷ whys) n = (n ≡ numberOf why) ⊎ OneOf whys n
 
 -- the refusal of an item that begins at a place and lacks so many bytes. "A refusal carries its number alone": place and shortfall are
 -- dropped, and whatever numbers stand there, it is the same refusal

@@ -8,7 +8,7 @@ use Rattle.field.specs.{sized, fieldText}
 unfoldable pub headText : ℕ → ℕ → Answer (List ℕ)
 headText kind n = giving (λ t. bytesOf 1 kind ++ t) (numberText 3 n)
 
--- the head for the body's length, and the body
+-- the head for the body's length, and the body; the head is an argument, since not every one has four bytes
 unfoldable pub messageText : (ℕ → Answer (List ℕ)) → Answer (List ℕ) → Answer (List ℕ)
 messageText head body = then body (λ b. giving (λ h. h ++ b) (head (length b)))
 

@@ -40,9 +40,9 @@ back k body c = take (k .tail c) body ++ added (k .block c)
 pub record WritesBack {C : Type 0} (k : Form C) (kind most : ℕ) (body : List ℕ) : Type 0 where
   -- before its tail the body has at most so many bytes
   pub bound : (c : C) → reading k body ≡ accepted c → k .tail c ≤ most
-  -- its text, type and length before the bytes of the body up to its tail, and what is added
+  -- its text: type and length, then the bytes of the body before its tail, and what is added
   pub text : (c : C) → reading k body ≡ accepted c → messageText (headText kind) (helloText k body c) ≡ accepted (framed kind (back k body c))
-  -- with what is added, too, they are at most so many: so an output of four bytes more is enough
+  -- what is added included, the text has at most four bytes more than the bound: an output of so many is enough
   pub longest : (c : C) → reading k body ≡ accepted c → length (framed kind (back k body c)) ≤ 4 + most
 
 -- the text of a ServerHello that was read by the form that its version announces
@@ -60,6 +60,7 @@ abbrev pub lastAgain : Option Field → List ℕ → Option (List ℕ) × List �
 lastAgain (some f) e = (some e, [])
 lastAgain none e = (none, fieldBytes extensions e)
 
+-- the pieces that a second reading finds: the parts that the value names, then block and tail by `lastAgain`
 abbrev pub again : {C : Type 0} (k : Form C) → List ℕ → C → Pieces (k .grammar)
 again k s c =
     let last = lastAgain (k .grammar .block) (optPartOf s (k .block c)) in

@@ -94,11 +94,17 @@ text-refused at d e = record { says = rw e; leaves = rw e }
 
 pub text-in : {t : Answer (List ℕ)} (bs : List ℕ) (at : ℕ) (d : List ℕ) {p : Part} → t ≡ accepted bs → roomAt d at (length bs) ≡ accepted p → Came t at d (accepted (p .next)) (put d at bs)
 unfolding room written
-text-in bs at d e q = record { says = rw (e, q); leaves = rw (e, le-leb (at + length bs) (length d) (room-fits d at (length bs) q .inside)) }
+text-in bs at d e q =
+    let f = room-fits d at (length bs) q in
+    let t = le-leb (at + length bs) (length d) (f .inside) in
+    record { says = rw (e, t, f .is); leaves = rw (e, t) }
 
 pub text-out : {t : Answer (List ℕ)} (bs : List ℕ) (at : ℕ) (d : List ℕ) {r : Refusal} → t ≡ accepted bs → roomAt d at (length bs) ≡ refused r → Came t at d (refused r) d
 unfolding room written
-text-out bs at d e q = record { says = rw (e, q); leaves = rw (e, lt-leb (at + length bs) (length d) (room-short d at (length bs) q .1)) }
+text-out bs at d e q =
+    let f = room-short d at (length bs) q in
+    let t = lt-leb (at + length bs) (length d) (f .1) in
+    record { says = rw (e, t, f .0); leaves = rw (e, t) }
 
 -- a text with room for it is put in
 pub written-in : {t : Answer (List ℕ)} (bs : List ℕ) (at : ℕ) (d : List ℕ) → t ≡ accepted bs → at + length bs ≤ length d → written t at d ≡ put d at bs

@@ -1,6 +1,6 @@
 -- Writing into a lent buffer. Document 01: "A refused write leaves the output exactly as lent; an accepted one sets its first n bytes,
 -- reports n, and touches no others."
-use Rattle.refusal.specs.{ℕ, _+_, List, _++_, length, take, drop, leb, unplaced, Answer, accepted, refused, then, NoRoom, giving}
+use Rattle.refusal.specs.{ℕ, _+_, List, _++_, length, take, drop, leb, unplaced, Answer, accepted, refused, NoRoom}
 use Rattle.wire.specs.Parts.{pick, partOr}
 use Rattle.wire.specs.declared.{output.WriteAnswer.WriteAnswer, view.Part.Part}
 
@@ -14,7 +14,8 @@ roomAt d at n = partOr (unplaced NoRoom) d at n
 
 -- the answer to writing a text from a place on: the place past it, or its own refusal, or NoRoom
 unfoldable pub room : Answer (List ℕ) → ℕ → List ℕ → Answer ℕ
-room t at d = then t (λ bs. giving (λ p. p .next) (roomAt d at (length bs)))
+room (accepted bs) at d = pick (leb (at + length bs) (length d)) (accepted (at + length bs)) (refused (unplaced NoRoom))
+room (refused r) at d = refused r
 
 -- the buffer afterwards: the text put in where there is room for it, else the buffer as lent
 unfoldable pub written : Answer (List ℕ) → ℕ → List ℕ → List ℕ

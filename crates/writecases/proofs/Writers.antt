@@ -2,13 +2,14 @@
 use Prim.Native.Nat.{ℕ, _+_, _%_, _^_, _<_, _≤_}
 use mathlib.Core.Path.{_≡_, refl, sym, ap, _∙_}
 use mathlib.Core.List.{List, [], _∷_, _++_, append-nil}
-use mathlib.Core.Bool.{Bool, true, false, _&&_, and-true, or-true}
+use mathlib.Core.Bool.{Bool, true, false, _&&_, and-true}
+use mathlib.Core.Logic.{inl, inr}
 use native.Mathlib.Omega.{arith}
 use native.Mathlib.Nat.{zero-add}
 use borrow.Author.Tests.{leb-true, leb-false, le-leb, lt-ltb, ltb-true, eqb-true, eq-eqb}
 use lib.ListN.{length, length-append}
 use lib.Dec.{leb, ltb, eqb, leb·suc-suc}
-use Rattle.refusal.specs.Refusals.{numberOf, refusal, unplaced}
+use Rattle.refusal.specs.Refusals.{numberOf, OneOf, refusal, unplaced}
 use Rattle.refusal.specs.Answers.{Answer, accepted, refused, then, numberIn}
 use Rattle.refusal.specs.declared.Reason.{Reason}
 use Rattle.refusal.specs.declared.Reason.the-variants.{Verify, LengthValue, TooLarge, BadLength, NoRoom, NotYetImplemented}
@@ -62,28 +63,25 @@ use Rattle.record.specs.declared.TlsRecordHeader.{TlsRecordHeader}
 use Rattle.genrecord.specs.Records.{recordBytes, recordText}
 use Rattle.hear.specs.Heard.{heard}
 use Rattle.hear.proofs.Heard.{each-heard}
-use Rattle.writecases.specs.Writers.{Case, comesTo, refusing, upTo, whereFits, lent, optLent, optLen, randomFits, idFits, ciphersFit, extensionsFit, partFits, clientWrite, serverWrite, draft18Write, exchangeWrite, finishedWrite, requestWrite, handshakeWrite, recordWrite, wide, most, kindFits, kindSays, fieldWrite, isOne, Comes, Writers}
+use Rattle.writecases.specs.Writers.{Case, comesTo, refusing, upTo, whereFits, lent, optLent, optLen, randomFits, idFits, ciphersFit, extensionsFit, partFits, clientWrite, serverWrite, draft18Write, exchangeWrite, finishedWrite, requestWrite, handshakeWrite, recordWrite, wide, most, kindFits, kindSays, fieldWrite, Comes, Writers}
 
--- the reasons of a case: the first of a list, and one of those behind it
-first : (why : Reason) (whys : List Reason) → isOne (why ∷ whys) (numberOf why) ≡ true
-first why whys = rw (eq-eqb (numberOf why) (numberOf why) refl)
-
-comes : {t : Answer (List ℕ)} {at : ℕ} {out : List ℕ} {c : Case} {whys : List Reason} → comesTo (room t at out) ≡ c → isOne whys (c .number) ≡ true → Comes t at out c whys
-comes {whys = whys} e h = record { is = e; only = ap (λ (x : Case). isOne whys (x .number)) e ∙ h }
+-- what a case comes to, with its refusals; and with one more
+comes : {t : Answer (List ℕ)} {at : ℕ} {out : List ℕ} {c : Case} {whys : List Reason} → comesTo (room t at out) ≡ c → OneOf whys (c .number) → Comes t at out c whys
+comes e h = record { is = e; only = rw (ap (λ (x : Case). x .number) e) h }
 
 wider : {t : Answer (List ℕ)} {at : ℕ} {out : List ℕ} {c : Case} {whys : List Reason} (why : Reason) → Comes t at out c whys → Comes t at out c (why ∷ whys)
-wider {t} {at} {out} why h = record { is = h .is; only = rw (h .only) (or-true (eqb (numberIn (room t at out)) (numberOf why))) }
+wider why h = record { is = h .is; only = inr (h .only) }
 
 -- a text that is refused
 case-no : {t : Answer (List ℕ)} {at : ℕ} {out : List ℕ} (why : Reason) (whys : List Reason) → room t at out ≡ refused (unplaced why) → Comes t at out (refusing why) (why ∷ whys)
-case-no why whys e = comes (ap comesTo e ∙ ap (λ (r : Reason). refusing r) (unplaced-reason why)) (first why whys)
+case-no why whys e = comes (ap comesTo e ∙ ap (λ (r : Reason). refusing r) (unplaced-reason why)) (inl refl)
 
 -- one of n bytes, by whether it ends within the output
 case-yes : {t : Answer (List ℕ)} (bs : List ℕ) (at n : ℕ) (out : List ℕ) → t ≡ accepted bs → length bs ≡ n → Comes t at out (upTo (at + n) out) (NoRoom ∷ [])
 case-yes {t} bs at n out e l = rw (← l) (go (leb (at + length bs) (length out)) refl)
   where
     go : (b : Bool) → leb (at + length bs) (length out) ≡ b → Comes t at out (upTo (at + length bs) out) (NoRoom ∷ [])
-    go true q = rw q (comes (ap comesTo (text-in bs at out e (room-in out at (length bs) (leb-true _ _ q)) .says)) refl)
+    go true q = rw q (comes (ap comesTo (text-in bs at out e (room-in out at (length bs) (leb-true _ _ q)) .says)) (inr refl))
     go false q = rw q (case-no NoRoom [] (text-out bs at out e (room-out out at (length bs) (leb-false _ _ q)) .says))
 
 -- a text by a test
@@ -318,11 +316,10 @@ field w k p at out =
     unfit Fragment = refl
 
 -- hearing: a message, BadLength or NotYetImplemented
-hearing : (m : List ℕ) → isOne (NotYetImplemented ∷ BadLength ∷ []) (numberIn (heard m)) ≡ true
-hearing m = each-heard (λ a. isOne (NotYetImplemented ∷ BadLength ∷ []) (numberIn a) ≡ true) (λ x. refl) (said BadLength refl) (said NotYetImplemented refl) m
-  where
-    said : (why : Reason) → isOne (NotYetImplemented ∷ BadLength ∷ []) (numberOf why) ≡ true → isOne (NotYetImplemented ∷ BadLength ∷ []) (numberOf (unplaced why .reason)) ≡ true
-    said why e = rw (unplaced-reason why) e
+hearing : (m : List ℕ) → OneOf (NotYetImplemented ∷ BadLength ∷ []) (numberIn (heard m))
+hearing m =
+    each-heard (λ a. OneOf (NotYetImplemented ∷ BadLength ∷ []) (numberIn a)) (λ x. inr (inr refl)) (inr (inl (ap numberOf (unplaced-reason BadLength))))
+    (inl (ap numberOf (unplaced-reason NotYetImplemented))) m
 
 pub every-writing : (s out : List ℕ) → Writers s out
 every-writing s out = record {

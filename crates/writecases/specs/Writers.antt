@@ -1,7 +1,7 @@
 -- Document 01's table of refusals, of the writers: "Each is given only then", and "Order in writing: 12, then 8, or 7 for a record, then
 -- 9". The rules stand here a second time, from the paper, in plain lengths and places: no case names a field, a rule or a form. By its
 -- contract a writer's answer is `room` of its text, so each case is one of the code. Shown by `proofs/Writers.antt`.
-use Rattle.refusal.specs.{ℕ, _+_, _%_, _≡_, List, [], _∷_, Bool, true, _&&_, _||_, Option, none, some, length, leb, eqb, numberOf, Answer, accepted, numberIn, valuesIn, Reason, TooLarge, BadLength, NoRoom, NotYetImplemented}
+use Rattle.refusal.specs.{ℕ, _+_, _%_, _≡_, List, [], _∷_, Bool, true, _&&_, Option, none, some, length, leb, eqb, numberOf, Answer, accepted, numberIn, valuesIn, Reason, TooLarge, BadLength, NoRoom, NotYetImplemented, OneOf}
 use Rattle.wire.specs.{pick, bytesIn, numberText, room, View, OptView, Absent, Present, Width, One, Two, Three, Four}
 use Rattle.field.specs.{counted, ruleOf, fieldText, Kind, Plain, SessionId, Ciphers, Methods, Fragment}
 use Rattle.text.specs.{helloText, headText, messageText, viewText}
@@ -155,21 +155,18 @@ kindSays Ciphers = BadLength
 kindSays Methods = BadLength
 kindSays Fragment = TooLarge
 
+-- such a part written, of a width and a kind. Document 01 has a record's content at width Two alone; at width One its TooLarge begins at
+-- 256 bytes
 abbrev pub fieldWrite : Width → Kind → List ℕ → ℕ → List ℕ → Case
 fieldWrite w k p at out = pick (leb (length p) (most w) && kindFits k (length p)) (upTo (at + (wide w + length p)) out) (refusing (kindSays k))
-
--- 0, or the number of one of these
-abbrev pub isOne : List Reason → ℕ → Bool
-isOne [] n = eqb n 0
-isOne (why ∷ whys) n = eqb n (numberOf why) || isOne whys n
 
 -- a text written from a place on comes to this case, and is refused for one of these reasons or not at all
 pub record Comes (text : Answer (List ℕ)) (at : ℕ) (out : List ℕ) (case : Case) (whys : List Reason) : Type 0 where
   pub is : comesTo (room text at out) ≡ case
-  pub only : isOne whys (numberIn (room text at out)) ≡ true
+  pub only : OneOf whys (numberIn (room text at out))
 
--- every writer: its text, its case, and the refusals that it gives, in their order; s has the bytes that are written or that the views are
--- of, and out is the output as lent
+-- every writer: its text, its case, by which the order goes, and the refusals that it may give; s has the bytes that are written or that
+-- the views are of, and out is the output as lent
 pub record Writers (s out : List ℕ) : Type 0 where
   pub clientHello : (c : TlsClientHelloContents) → Comes (messageText (headText 0x01) (helloText client s c)) 0 out (clientWrite s c out) (BadLength ∷ NoRoom ∷ [])
   pub serverHello : (c : TlsServerHelloContents) → Comes (messageText (headText 0x02) (helloText (server true) s c)) 0 out (serverWrite s c out) (BadLength ∷ NoRoom ∷ [])
@@ -185,4 +182,4 @@ pub record Writers (s out : List ℕ) : Type 0 where
   pub field : (w : Width) (k : Kind) (at : ℕ) → Comes (fieldText (counted (bytesIn w) (ruleOf k)) s) at out (fieldWrite w k s at out) (kindSays k ∷ NoRoom ∷ [])
   pub head : (kind n : ℕ) → Comes (headText kind n) 0 out (whereFits (leb n 16777215) 4 out) (BadLength ∷ NoRoom ∷ [])
   -- numbers that tell of a message to be written: hearing them writes nothing
-  pub hearing : isOne (NotYetImplemented ∷ BadLength ∷ []) (numberIn (heard s)) ≡ true
+  pub hearing : OneOf (NotYetImplemented ∷ BadLength ∷ []) (numberIn (heard s))

@@ -19,7 +19,7 @@ use Rattle.envelope.proofs.Answers.{one-head}
 use Rattle.walk.proofs.Walking.{every-walk}
 use Rattle.record.proofs.Whole as records
 use Rattle.plaintext.proofs.Answers.{one-plaintext, one-opened}
-use Rattle.capture.proofs.Captures.{same-bytes}
+use Rattle.capture.proofs.Captures.{no-record-more, same-bytes}
 use Rattle.hear.proofs.Again.{heard-again}
 use Rattle.wayback.proofs.Hellos.{every-text}
 use Rattle.wayback.proofs.Demand3 as back
@@ -84,6 +84,7 @@ returns c = record {
   splitsNextProtocol = body.splits-next-protocol;
   ticket = body.of-ticket;
   splitsRecord = records.all-records;
+  noRecordMore = no-record-more;
   walks = every-walk;
   readers = every-reader;
   sameBytes = same-bytes;
