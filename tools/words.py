@@ -66,6 +66,11 @@ def files(root):
     return found
 
 
+def passed_on(lib):
+    """The words that a Lib passes on."""
+    return [name.strip().rpartition(".")[2] for line in lib.splitlines() if (use := TAKEN.match(line)) for name in use.group(3).split(",")]
+
+
 def standing(known, file, word):
     """The file that a file takes a word from: of a crate whose Lib passes it on the one that has it."""
     where = file.taken.get(word) or ""
