@@ -30,7 +30,7 @@ pub fn refuse(reason: Reason, at: usize, lack: usize) -> Refusal
     Refusal { reason }
 }
 
-// A refusal to write: no place in bytes that were read is meant.
+// A refusal of no byte that was lent to be read: every refusal to write, and that of a type handed over apart from its body.
 pub fn unplaced(why: Reason) -> Refusal
     ensures { λ r. ⌜ r ≡ unplaced why ⌝ }
 {
