@@ -3,7 +3,7 @@ use Prim.Native.Nat.{ℕ, _+_}
 use mathlib.Core.Path.{_≡_, refl}
 use mathlib.Core.Logic.{inl, inr}
 use mathlib.Core.List.{List, [], _∷_}
-use mathlib.Core.Bool.{Bool, true, false, false≢true}
+use mathlib.Core.Bool.{Bool, true, false, _&&_}
 use borrow.Author.Tests.{eqb-true}
 use lib.Dec.{eqb}
 use lib.ListN.{take, drop}
@@ -14,6 +14,7 @@ use Rattle.refusal.specs.declared.Reason.the-variants.{Incomplete, Complete, Ve
 use Rattle.refusal.proofs.Told.{its-reason}
 use Rattle.wire.specs.Parts.{pick}
 use Rattle.wire.specs.Numbers.{be}
+use Rattle.field.proofs.Texts.{both-true}
 use Rattle.list.specs.Items.{orNoSuch}
 use Rattle.readcases.specs.Readers.{All, _&_, end, Check, ofMessage, inOrder, beside, clientCase, serverCase, byVersionCase, draft18Case, serverMessageCase, retryCase, ticketCase, certificateCase, requestCase, statusCase, nextProtocolCase, keyUpdateCase, wholeCase, openedCase, bodyCase, metCase, recordTypeCase, plaintextCase, placeCase, walkCase}
 
@@ -49,14 +50,10 @@ either-way : {whys : List Reason} {a b : ℕ} (t : Bool) → Only whys a → Onl
 either-way true p q = p
 either-way false p q = q
 
-both-true : (a b : Bool) → pick a b false ≡ true → (a ≡ true) × (b ≡ true)
-both-true true b e = (refl, e)
-both-true false b e = absurd (false≢true e)
-
 -- whether the refusals of checks are among these
 abbrev hasAll : List Reason → List Check → Bool
 hasAll whys [] = true
-hasAll whys ((t, why) ∷ checks) = pick (has whys (numberOf why)) (hasAll whys checks) false
+hasAll whys ((t, why) ∷ checks) = has whys (numberOf why) && hasAll whys checks
 
 -- checks and what is left to say
 pub only-order : {whys : List Reason} {k : ℕ} (checks : List Check) → hasAll whys checks ≡ true → Only whys k → Only whys (inOrder checks k)
