@@ -5,9 +5,9 @@ import re
 import source
 
 # Who links C or Rust reads the first besides; demand 3's clause of the readers of hellos; crates whose contracts are theorems.
-EXPORTS = ("array", "tell", "fill", "hear", "norrabist_c")
+EXPORTS = ("c_array", "c_tell", "c_fill", "c_hear", "norrabist_c")
 SPLITS = ("BySplit ", "ByVersion ")
-THEOREMS = ("readings", "readcases", "wayback", "writecases", "claims")
+THEOREMS = ("claim_rows", "claim_readers", "claim_wayback", "claim_writers", "claims")
 
 NAMED = re.compile(r"^(?:(?:abbrev|unfoldable|opaque|pub)\s+)*(?:(?:record|data)\s+)?([^\s:(){}]+)")
 TAKEN = re.compile(r"^(pub )?use (\S+?)\.\{([^}]*)\}$")

@@ -18,29 +18,29 @@ use Rattle.wire.specs.declared.view.Part.{Part}
 use Rattle.wire.proofs.Parts.{fits, part-in, part-out}
 use Rattle.wire.proofs.Numbers.{number-got, number-no}
 use Rattle.field.specs.Fields.{fixed, ruleOf, ruled, step}
-use Rattle.field.specs.declared.Kind.the-variants.{Fragment}
+use Rattle.field.specs.declared.RuleName.the-variants.{Fragment}
 use Rattle.field.proofs.Rules.{ruled-accepted, unless-none}
 use Rattle.grammar.specs.Reading.{fieldsAt, read}
 use Rattle.grammar.specs.Forms.{reading, byVersion}
-use Rattle.client.specs.Client.{client}
-use Rattle.server.specs.Server.{server, serverVersions, draft18}
+use Rattle.read_client.specs.Client.{client}
+use Rattle.read_server.specs.Server.{server, serverVersions, draft18}
 use Rattle.record.specs.Records.{header, raw}
 use Rattle.record.specs.declared.TlsRawRecord.{TlsRawRecord}
 use Rattle.record.specs.declared.TlsRecordHeader.{TlsRecordHeader}
-use Rattle.certs.specs.Certs.{certificate, certificateRequest, status}
-use Rattle.body.specs.Body.{retry, sessionTicket, nextProtocol}
-use Rattle.hellos.specs.Hellos.{serverMessage}
-use Rattle.opaque.specs.Whole.{wholeBody}
+use Rattle.read_certs.specs.Certs.{certificate, certificateRequest, status}
+use Rattle.read_others.specs.Body.{retry, sessionTicket, nextProtocol}
+use Rattle.open_hellos.specs.HelloMessages.{serverMessage}
+use Rattle.open_whole.specs.Whole.{wholeBody}
 use Rattle.message.specs.declared.handshake.TlsMessageHandshake.{TlsMessageHandshake}
 use Rattle.message.specs.declared.handshake.TlsMessageHandshake.the-variants.{HelloRequest, ClientHello, ServerHello, ServerHelloV13Draft18, NewSessionTicket, EndOfEarlyData, HelloRetryRequest, Certificate, ServerKeyExchange, CertificateRequest, ServerDone, CertificateVerify, ClientKeyExchange, Finished, CertificateStatus, NextProtocol, KeyUpdate}
 use Rattle.message.proofs.Lookup.{by-rows}
 use Rattle.message.specs.declared.keyexchange.TlsClientKeyExchangeContents.the-variants.{Unknown}
-use Rattle.envelope.specs.Opening.{kinds, opened}
-use Rattle.text.specs.Hellos.{helloText}
-use Rattle.text.specs.Messages.{headText, messageText, viewText}
-use Rattle.genpart.specs.Exchange.{exchangeText}
-use Rattle.genmessage.specs.Messages.{notWritten, handshakeText}
-use Rattle.wayback.proofs.Wrote.{message-wrote}
+use Rattle.envelope.specs.Opening.{openings, opened}
+use Rattle.write_rules.specs.HelloTexts.{helloText}
+use Rattle.write_rules.specs.MessageTexts.{headText, messageText, viewText}
+use Rattle.write_others.specs.Exchange.{exchangeText}
+use Rattle.write_message.specs.Written.{notWritten, handshakeText}
+use Rattle.claim_wayback.proofs.Wrote.{message-wrote}
 use Rattle.claims.specs.Crossed.{HeaderAndRecord, typeOf}
 
 module _ (s : List ℕ) where
@@ -123,21 +123,21 @@ header-and-record s = record { sameHeader = λ x e. record-has s x e .0; sameLen
 
 -- what is accepted tells of a type
 abbrev Tells : ℕ → Answer TlsMessageHandshake → Type 0
-Tells kind a = (m : TlsMessageHandshake) → a ≡ accepted m → typeOf m ≡ kind
+Tells msgType a = (m : TlsMessageHandshake) → a ≡ accepted m → typeOf m ≡ msgType
 
-none-told : (kind : ℕ) {r : Refusal} → Tells kind (refused r)
-none-told kind m e = absurd (not-both e refl)
+none-told : (msgType : ℕ) {r : Refusal} → Tells msgType (refused r)
+none-told msgType m e = absurd (not-both e refl)
 
-told : (kind : ℕ) (x : TlsMessageHandshake) → typeOf x ≡ kind → Tells kind (accepted x)
-told kind x t m e = let d : accepted x ≡ accepted m = e in let y : x ≡ m = cc in rw (← y) t
+told : (msgType : ℕ) (x : TlsMessageHandshake) → typeOf x ≡ msgType → Tells msgType (accepted x)
+told msgType x t m e = let d : accepted x ≡ accepted m = e in let y : x ≡ m = cc in rw (← y) t
 
 -- a message made of what was read
-made : {A : Type 0} (kind : ℕ) (a : Answer A) (make : A → TlsMessageHandshake) → ((x : A) → typeOf (make x) ≡ kind) → Tells kind (then a (λ x. accepted (make x)))
-made kind (accepted x) make t m e = let d : make x ≡ m = cc e in rw (← d) (t x)
-made kind (refused r) make t m e = absurd (not-both e refl)
+made : {A : Type 0} (msgType : ℕ) (a : Answer A) (make : A → TlsMessageHandshake) → ((x : A) → typeOf (make x) ≡ msgType) → Tells msgType (then a (λ x. accepted (make x)))
+made msgType (accepted x) make t m e = let d : make x ≡ m = cc e in rw (← d) (t x)
+made msgType (refused r) make t m e = absurd (not-both e refl)
 
 -- at a type what holds of its row
-at-row : {kind of : ℕ} {a : Answer TlsMessageHandshake} → Tells of a → kind ≡ of → Tells kind a
+at-row : {msgType of : ℕ} {a : Answer TlsMessageHandshake} → Tells of a → msgType ≡ of → Tells msgType a
 at-row f q m e = f m e ∙ sym q
 
 either-hello : (t : Bool) {a b : Answer TlsMessageHandshake} → Tells 0x02 a → Tells 0x02 b → Tells 0x02 (pick t a b)
@@ -150,10 +150,10 @@ server-told s m e =
     let t = then-accepted (numberAt 2 s 0) _ e in
     either-hello (eqb (t .0 .value) 0x7f12) (made 0x02 (reading draft18 s) (λ c. ServerHelloV13Draft18 c) (λ c. refl)) (made 0x02 (byVersion serverVersions s) (λ c. ServerHello c) (λ c. refl)) m (t .2)
 
-pub tells-its-type : (kind n : ℕ) (s : List ℕ) (m : TlsMessageHandshake) → opened kind n s ≡ accepted m → typeOf m ≡ kind
+pub tells-its-type : (msgType n : ℕ) (s : List ℕ) (m : TlsMessageHandshake) → opened msgType n s ≡ accepted m → typeOf m ≡ msgType
 unfolding opened wholeBody
-tells-its-type kind n s =
-    by-rows (λ o. Tells kind (ifSome o (λ a. a) (refused (unplaced Switch)))) kind (kinds n s) (
+tells-its-type msgType n s =
+    by-rows (λ o. Tells msgType (ifSome o (λ a. a) (refused (unplaced Switch)))) msgType (openings n s) (
       at-row (told 0x00 HelloRequest refl),
       (
         at-row (made 0x01 (reading client s) (λ c. ClientHello c) (λ c. refl)),
@@ -202,12 +202,12 @@ tells-its-type kind n s =
         ),
       ),
     )
-    (none-told kind)
+    (none-told msgType)
 
 -- the first byte of a message
-begins : (kind : ℕ) (body : Answer (List ℕ)) (t : List ℕ) → messageText (headText kind) body ≡ accepted t → getD t 0 0 ≡ kind % 256
+begins : (msgType : ℕ) (body : Answer (List ℕ)) (t : List ℕ) → messageText (headText msgType) body ≡ accepted t → getD t 0 0 ≡ msgType % 256
 unfolding bytesOf
-begins kind body t e = ap (λ (x : List ℕ). getD x 0 0) (sym (message-wrote kind body e .whole))
+begins msgType body t e = ap (λ (x : List ℕ). getD x 0 0) (sym (message-wrote msgType body e .whole))
 
 none-written : {A : Type 0} {t : List ℕ} → notWritten ≡ accepted t → A
 none-written e = absurd (not-both e refl)

@@ -6,26 +6,26 @@ use Rattle.wire.specs.{partOf, partSays, Bytes, numberSays, EachUndoes, writeSa
 use Rattle.field.specs.{Field, fixed, sized, least}
 use Rattle.grammar.specs.{BySplit, ByVersion}
 use Rattle.list.specs.{NoneMore, ByItems}
-use Rattle.hello.specs.Start.{startSays}
-use Rattle.client.specs.{client, clientSays, TlsClientHelloContents}
-use Rattle.server.specs.{server, serverVersions, serverSays, draft18, draft18Says, TlsServerHelloContents, TlsServerHelloV13Draft18Contents}
-use Rattle.certs.specs.{certificate, certificateSays, request, requestSays, status, statusSays, OfRequest}
-use Rattle.chain.specs.Chain.{SameItems}
-use Rattle.body.specs.Body.{retry, retrySays, ticketSays, nextProtocol, nextProtocolSays, OfTicket}
+use Rattle.read_start.specs.Start.{startSays}
+use Rattle.read_client.specs.{client, clientSays, TlsClientHelloContents}
+use Rattle.read_server.specs.{server, serverVersions, serverSays, draft18, draft18Says, TlsServerHelloContents, TlsServerHelloV13Draft18Contents}
+use Rattle.read_certs.specs.{certificate, certificateSays, request, requestSays, status, statusSays, OfRequest}
+use Rattle.cert_reader.specs.Chain.{SameItems}
+use Rattle.read_others.specs.Body.{retry, retrySays, ticketSays, nextProtocol, nextProtocolSays, OfTicket}
 use Rattle.message.specs.{messageSays, TlsMessageHandshake}
-use Rattle.genmessage.specs.Messages.{handshakeText}
-use Rattle.hellos.specs.Hellos.{AsMessage}
+use Rattle.write_message.specs.Written.{handshakeText}
+use Rattle.open_hellos.specs.HelloMessages.{AsMessage}
 use Rattle.envelope.specs.{headSays, opened}
-use Rattle.walk.specs.Walking.{Walking}
+use Rattle.record_walk.specs.Walking.{Walking}
 use Rattle.record.specs.{raw, headerSays, rawSays, encryptedSays}
-use Rattle.plaintext.specs.{plaintextSays, openedSays}
-use Rattle.capture.specs.Captures.{viewIn, NoRecordMore}
-use Rattle.tell.specs.Messages.{messageNumbers}
-use Rattle.hear.specs.{heard, Holds, again}
-use Rattle.readings.specs.Readings.{rows, ownRows, AllRead}
-use Rattle.readcases.specs.Readers.{Readers}
-use Rattle.wayback.specs.WayBack.{EveryText, WritesBack, ReadsAgain, BackByVersion, AgainByVersion, OneText, WayBack}
-use Rattle.writecases.specs.Writers.{Writers}
+use Rattle.record_open.specs.{plaintextSays, openedSays}
+use Rattle.record_joined.specs.Joined.{viewIn, NoRecordMore}
+use Rattle.c_tell.specs.MessageNumbers.{messageNumbers}
+use Rattle.c_hear.specs.{heard, FieldsFit, heardBack}
+use Rattle.claim_rows.specs.Readings.{rows, ownRows, AllRead}
+use Rattle.claim_readers.specs.Readers.{Readers}
+use Rattle.claim_wayback.specs.WayBack.{EveryText, WritesBack, ReadsAgain, BackByVersion, AgainByVersion, OneText, WayBack}
+use Rattle.claim_writers.specs.Writers.{Writers}
 use Rattle.claims.specs.Crossed.{HeaderAndRecord, typeOf}
 
 -- of every list of bytes: what is lent is one by its type, which `claims::bytes_lent` promises
@@ -101,10 +101,10 @@ pub record Claims : Type 0 where
   pub sameBytes : (s : List ℕ) (outer inner : View) → partOf s (viewIn s outer inner) ≡ partOf (partOf s outer) inner
   -- what reading finds of what was written, and hearing of what was told
   pub wayBack : WayBack
-  pub heardAgain : (m : TlsMessageHandshake) → Holds m → heard (messageNumbers m) ≡ again m
+  pub heardAgain : (m : TlsMessageHandshake) → FieldsFit m → heard (messageNumbers m) ≡ heardBack m
   -- rules said a second time: the header and the record, types and kinds, document 01's rows and our own
   pub header : (s : List ℕ) → HeaderAndRecord s
-  pub kinds : (kind n : ℕ) (s : List ℕ) (m : TlsMessageHandshake) → opened kind n s ≡ accepted m → typeOf m ≡ kind
+  pub kinds : (msgType n : ℕ) (s : List ℕ) (m : TlsMessageHandshake) → opened msgType n s ≡ accepted m → typeOf m ≡ msgType
   pub paperRows : AllRead rows
   pub otherRows : AllRead ownRows
   -- "Each is given only then": every reader with its number by places and lengths, which refusals it gives and that it gives each; every

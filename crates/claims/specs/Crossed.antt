@@ -5,7 +5,7 @@ use Rattle.wire.specs.{pick}
 use Rattle.grammar.specs.{reading}
 use Rattle.message.specs.{TlsMessageHandshake}
 use Rattle.record.specs.{header, raw, TlsRawRecord}
-use Rattle.tell.specs.Messages.{messageNumbers}
+use Rattle.c_tell.specs.MessageNumbers.{messageNumbers}
 
 -- the record header by itself, and the raw record that begins with it: RFC 5246 6.2.1
 pub record HeaderAndRecord (s : List ℕ) : Type 0 where

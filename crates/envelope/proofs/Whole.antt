@@ -8,7 +8,7 @@ use Rattle.refusal.specs.Answers.{accepted}
 use Rattle.wire.specs.declared.view.View.{View}
 use Rattle.field.proofs.Rules.{fixed-in}
 use Rattle.message.specs.declared.handshake.TlsMessageHandshake.{TlsMessageHandshake}
-use Rattle.opaque.specs.Whole.{wholeBody}
+use Rattle.open_whole.specs.Whole.{wholeBody}
 
 pub whole-body : (make : View → TlsMessageHandshake) (s : List ℕ) → wholeBody make (length s) s ≡ accepted (make (record { start = 0; len = length s }))
 unfolding wholeBody

@@ -4,25 +4,25 @@ use Rattle.refusal.specs.{ℕ, List, [], _∷_, length, refusal, unplaced, Answ
 use Rattle.wire.specs.{partOf, lookup, ifSome, numberAt}
 use Rattle.field.specs.{step, sized}
 use Rattle.grammar.specs.{reading}
-use Rattle.client.specs.{client}
-use Rattle.certs.specs.{certificate, certificateRequest, status}
-use Rattle.body.specs.Body.{retry, sessionTicket, nextProtocol}
+use Rattle.read_client.specs.{client}
+use Rattle.read_certs.specs.{certificate, certificateRequest, status}
+use Rattle.read_others.specs.Body.{retry, sessionTicket, nextProtocol}
 use Rattle.message.specs.{TlsMessageHandshake, HelloRequest, ClientHello, NewSessionTicket, EndOfEarlyData, HelloRetryRequest, Certificate, ServerKeyExchange, CertificateRequest, ServerDone, CertificateVerify, ClientKeyExchange, Finished, CertificateStatus, NextProtocol, KeyUpdate, Unknown}
-use Rattle.hellos.specs.Hellos.{serverMessage}
-use Rattle.opaque.specs.Whole.{wholeBody}
+use Rattle.open_hellos.specs.HelloMessages.{serverMessage}
+use Rattle.open_whole.specs.Whole.{wholeBody}
 use Rattle.envelope.specs.declared.{HeadAnswer.HeadAnswer, TlsMessageHead.TlsMessageHead}
 
 -- "A message is type 1, length 3, body": the head of the one that begins at a place
 unfoldable pub headAt : List ℕ → ℕ → Answer TlsMessageHead
-headAt s at = then (numberAt 1 s at) (λ t. giving (λ b. record { kind = t .value; body = b .view; next = b .next }) (step (sized 3) s (t .next)))
+headAt s at = then (numberAt 1 s at) (λ t. giving (λ b. record { «msg_type» = t .value; body = b .view; next = b .next }) (step (sized 3) s (t .next)))
 
 abbrev pub headSays : HeadAnswer → Answer TlsMessageHead
 headSays (HeadAnswer.Refused r) = refused r
 headSays (HeadAnswer.Got h) = accepted h
 
 -- "The type decides": what a body is opened as by each type that is listed, n its length where that is handed over
-abbrev pub kinds : ℕ → List ℕ → List (ℕ × Answer TlsMessageHandshake)
-kinds n s =
+abbrev pub openings : ℕ → List ℕ → List (ℕ × Answer TlsMessageHandshake)
+openings n s =
     (0x00, accepted HelloRequest)
     ∷ (0x01, giving ClientHello (reading client s))
     ∷ (0x02, serverMessage s)
@@ -43,7 +43,7 @@ kinds n s =
 
 -- a body opened by its type k, n the length that is handed over besides the bytes; "All others, 0x03, 0x08 and 0x15 among them: Switch"
 unfoldable pub opened : ℕ → ℕ → List ℕ → Answer TlsMessageHandshake
-opened k n s = ifSome (lookup k (kinds n s)) (λ a. a) (refused (unplaced Switch))
+opened k n s = ifSome (lookup k (openings n s)) (λ a. a) (refused (unplaced Switch))
 
 -- the same where the length is that of the bytes
 unfoldable pub byType : ℕ → List ℕ → Answer TlsMessageHandshake
@@ -51,7 +51,7 @@ byType k s = opened k (length s) s
 
 -- the same in a message whose type stands at a place, the body beginning at another: Switch is given where the type stands
 unfoldable pub byTypeIn : ℕ → ℕ → ℕ → List ℕ → Answer TlsMessageHandshake
-byTypeIn at start k s = ifSome (lookup k (kinds (length s) s)) (within start) (refused (refusal Switch at 0))
+byTypeIn at from k s = ifSome (lookup k (openings (length s) s)) (within from) (refused (refusal Switch at 0))
 
 -- a message that was met: its head, and what it says
 pub record Met : Type 0 where
@@ -61,7 +61,7 @@ pub record Met : Type 0 where
 -- the message that begins at a place: its head, whose places are places of s, and what its type opens its body as, whose places count from
 -- the body's first byte
 unfoldable pub metAt : List ℕ → ℕ → Answer Met
-metAt s at = then (headAt s at) (λ h. giving (λ m. record { head = h; says = m }) (byTypeIn at (h .body .start) (h .kind) (partOf s (h .body))))
+metAt s at = then (headAt s at) (λ h. giving (λ m. record { head = h; says = m }) (byTypeIn at (h .body .start) (h .«msg_type») (partOf s (h .body))))
 
 -- the message at the front: its places count from the body's first byte, which is byte 4 of s
 unfoldable pub message : List ℕ → Answer TlsMessageHandshake

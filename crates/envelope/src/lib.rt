@@ -2,7 +2,7 @@
 ghost use mathlib.Core.Path.{_≡_};
 ghost use Rattle.envelope.specs.Opening.{headAt, headSays, byType, message, opened};
 ghost use Rattle.message.specs.Messages.{messageSays};
-use field::Kind;
+use field::RuleName;
 use message::handshake::MessageAnswer;
 use message::handshake::TlsMessageHandshake;
 use refusal::Reason;
@@ -14,7 +14,7 @@ use wire::view::View;
 
 // The type, where the body lies, and the place past it.
 pub struct TlsMessageHead {
-    pub kind: u8,
+    pub msg_type: u8,
     pub body: View,
     pub next: usize,
 }
@@ -28,13 +28,13 @@ pub enum HeadAnswer {
 pub fn parse_tls_message_head(s: &[u8], at: usize) -> HeadAnswer
     ensures { λ r. ⌜ headSays r ≡ headAt (now (s .entry)) at ⌝ }
 {
-    let kind = match wire::number::parse_be(s, at, Width::One) {
+    let msg_type = match wire::number::parse_be(s, at, Width::One) {
         NumberAnswer::Refused(r) => {
             return HeadAnswer::Refused(r);
         }
         NumberAnswer::Got(n) => n,
     };
-    let body = match field::length_data(s, kind.next, Width::Three, Kind::Plain) {
+    let body = match field::length_data(s, msg_type.next, Width::Three, RuleName::Plain) {
         PartAnswer::Refused(r) => {
             return HeadAnswer::Refused(r);
         }
@@ -42,43 +42,43 @@ pub fn parse_tls_message_head(s: &[u8], at: usize) -> HeadAnswer
     };
     let view = body.view;
     HeadAnswer::Got(TlsMessageHead {
-        kind: kind.value as u8,
+        msg_type: msg_type.value as u8,
         body: view,
         next: body.next,
     })
 }
 
 // The body reader that the type names, `len` the length of those that take one.
-pub fn parse_tls_handshake_msg(kind: u8, i: &[u8], len: usize) -> MessageAnswer
-    ensures { λ r. ⌜ messageSays r ≡ opened kind len (now (i .entry)) ⌝ }
+pub fn parse_tls_handshake_msg(msg_type: u8, i: &[u8], len: usize) -> MessageAnswer
+    ensures { λ r. ⌜ messageSays r ≡ opened «msg_type» len (now (i .entry)) ⌝ }
 {
-    match kind {
-        0x00 => hellos::parse_tls_handshake_msg_hello_request(i),
-        0x01 => hellos::parse_tls_handshake_msg_client_hello(i),
-        0x02 => hellos::parse_tls_handshake_msg_server_hello(i),
-        0x04 => bodies::parse_tls_handshake_msg_newsessionticket(i, len),
+    match msg_type {
+        0x00 => open_hellos::parse_tls_handshake_msg_hello_request(i),
+        0x01 => open_hellos::parse_tls_handshake_msg_client_hello(i),
+        0x02 => open_hellos::parse_tls_handshake_msg_server_hello(i),
+        0x04 => open_fields::parse_tls_handshake_msg_newsessionticket(i, len),
         0x05 => MessageAnswer::Got(TlsMessageHandshake::EndOfEarlyData),
-        0x06 => hellos::parse_tls_handshake_msg_hello_retry_request(i),
-        0x0b => bodies::parse_tls_handshake_msg_certificate(i),
-        0x0c => opaque::parse_tls_handshake_msg_serverkeyexchange(i, len),
-        0x0d => bodies::parse_tls_handshake_msg_certificaterequest(i),
-        0x0e => opaque::parse_tls_handshake_msg_serverdone(i, len),
-        0x0f => opaque::parse_tls_handshake_msg_certificateverify(i, len),
-        0x10 => opaque::parse_tls_handshake_msg_clientkeyexchange(i, len),
-        0x14 => opaque::parse_tls_handshake_msg_finished(i, len),
-        0x16 => bodies::parse_tls_handshake_msg_certificatestatus(i),
-        0x18 => bodies::parse_tls_handshake_msg_key_update(i),
-        0x43 => bodies::parse_tls_handshake_msg_next_protocol(i),
+        0x06 => open_hellos::parse_tls_handshake_msg_hello_retry_request(i),
+        0x0b => open_fields::parse_tls_handshake_msg_certificate(i),
+        0x0c => open_whole::parse_tls_handshake_msg_serverkeyexchange(i, len),
+        0x0d => open_fields::parse_tls_handshake_msg_certificaterequest(i),
+        0x0e => open_whole::parse_tls_handshake_msg_serverdone(i, len),
+        0x0f => open_whole::parse_tls_handshake_msg_certificateverify(i, len),
+        0x10 => open_whole::parse_tls_handshake_msg_clientkeyexchange(i, len),
+        0x14 => open_whole::parse_tls_handshake_msg_finished(i, len),
+        0x16 => open_fields::parse_tls_handshake_msg_certificatestatus(i),
+        0x18 => open_fields::parse_tls_handshake_msg_key_update(i),
+        0x43 => open_fields::parse_tls_handshake_msg_next_protocol(i),
         0x03 | 0x07..=0x0a | 0x11..=0x13 | 0x15 | 0x17 | 0x19..=0x42 | 0x44..=0xff =>
             MessageAnswer::Refused(refusal::unplaced(Reason::Switch)),
     }
 }
 
 // The body of a message of a type, opened.
-pub fn parse_tls_handshake_body(kind: u8, body: &[u8]) -> MessageAnswer
-    ensures { λ r. ⌜ messageSays r ≡ byType kind (now (body .entry)) ⌝ }
+pub fn parse_tls_handshake_body(msg_type: u8, body: &[u8]) -> MessageAnswer
+    ensures { λ r. ⌜ messageSays r ≡ byType «msg_type» (now (body .entry)) ⌝ }
 {
-    parse_tls_handshake_msg(kind, body, body.len())
+    parse_tls_handshake_msg(msg_type, body, body.len())
 }
 
 // The message at the front; its views are of its body, and `parse_tls_message_head` tells where that lies and where the rest begins.
@@ -92,7 +92,7 @@ pub fn parse_tls_message_handshake(i: &[u8]) -> MessageAnswer
         HeadAnswer::Got(h) => h,
     };
     let view = head.body;
-    match parse_tls_handshake_body(head.kind, wire::view::part_of(i, view)) {
+    match parse_tls_handshake_body(head.msg_type, wire::view::part_of(i, view)) {
         MessageAnswer::Refused(r) => MessageAnswer::Refused(refusal::inside(r, view.start)),
         MessageAnswer::Got(m) => MessageAnswer::Got(m),
     }

@@ -17,7 +17,7 @@ use Rattle.wire.specs.declared.view.Part.{Part}
 use Rattle.wire.specs.declared.number.Number.{Number}
 use Rattle.wire.proofs.Parts.{found, fits, part-in, part-out}
 use Rattle.wire.proofs.Numbers.{number-is, number-short}
-use Rattle.field.specs.Fields.{Field, fixed, counted, Rule, unless, ruled, step}
+use Rattle.field.specs.Fields.{Field, fixed, vector, Rule, unless, ruled, step}
 use Rattle.field.specs.Standing.{least}
 use Rattle.field.specs.Texts.{allows}
 
@@ -78,9 +78,9 @@ pub record Lies (w : ℕ) (r : Rule) (s : List ℕ) (at : ℕ) (p : Part) : Type
   pub inside : p .next ≤ length s
   pub allowed : r .broken (p .view .len) ≡ none
 
-pub counted-lies : (w : ℕ) (r : Rule) (s : List ℕ) (at : ℕ) {p : Part} → step (counted w r) s at ≡ accepted p → Lies w r s at p
+pub vector-lies : (w : ℕ) (r : Rule) (s : List ℕ) (at : ℕ) {p : Part} → step (vector w r) s at ≡ accepted p → Lies w r s at p
 unfolding step
-counted-lies w r s at e =
+vector-lies w r s at e =
     let t = then-accepted (numberAt w s at) (λ l. ruled r s at (l .next) (l .value)) e in
     let n = number-is w s at (t .1) in
     let u = ruled-accepted r s at (at + w) (be w s at) (rw (n .is) at (t .2)) in
@@ -93,7 +93,7 @@ unfolding step
 step-in (fixed n) s at e =
     let g = fits _ s at n e in
     rw (g .is) (omega arith, g .inside)
-step-in (counted w r) s at e = let l = counted-lies w r s at e in (omega (arith, l .next), l .inside)
+step-in (vector w r) s at e = let l = vector-lies w r s at e in (omega (arith, l .next), l .inside)
 
 pub fixed-in : (n : ℕ) (s : List ℕ) (at : ℕ) → at + n ≤ length s → step (fixed n) s at ≡ accepted (found at n)
 unfolding step

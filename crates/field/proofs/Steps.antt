@@ -23,7 +23,7 @@ use Rattle.wire.proofs.Parts.{part-in, part-out, fits, short, Short}
 use Rattle.wire.proofs.Numbers.{length-bytes, be-drop, be-of, be-lt, of-be, number-got, number-no, number-is, number-short}
 use Rattle.refusal.proofs.Then.{then-accepted, then-refused}
 use Rattle.field.proofs.Rules.{ruled-in, ruled-out, ruled-accepted, ruled-refused}
-use Rattle.field.specs.Fields.{Field, fixed, counted, Rule, step, ruled}
+use Rattle.field.specs.Fields.{Field, fixed, vector, Rule, step, ruled}
 use Rattle.field.specs.Standing.{fieldBytes, Obeys, TooFew, BadPart, Lacks, placeOf, viewOf}
 
 abbrev view : ℕ → ℕ → View
@@ -37,8 +37,8 @@ placed f at p = record { view = viewOf f at p; next = at + length (fieldBytes f 
 left-length : (s : List ℕ) (at : ℕ) (xs : List ℕ) → at ≤ length s → drop at s ≡ xs → length s ≡ at + length xs
 left-length s at xs h e = omega (arith, length-drop at s, ap length e)
 
-pub length-counted : (w : ℕ) (r : Rule) (p : List ℕ) → length (fieldBytes (counted w r) p) ≡ w + length p
-length-counted w r p = simp (length-append, length-bytes)
+pub length-vector : (w : ℕ) (r : Rule) (p : List ℕ) → length (fieldBytes (vector w r) p) ≡ w + length p
+length-vector w r p = simp (length-append, length-bytes)
 
 -- a step finds the part whose bytes stand there
 pub step-of : (f : Field) (s : List ℕ) (at : ℕ) (p rest : List ℕ) → at ≤ length s → Obeys f p → drop at s ≡ fieldBytes f p ++ rest → step f s at ≡ accepted (placed f at p)
@@ -46,11 +46,11 @@ unfolding step
 step-of (fixed n) s at p rest h o e =
     let l : length s ≡ at + (length p + length rest) = left-length s at _ h e ∙ ap (λ (k : ℕ). at + k) (length-append p rest) in
     rw (← o) (part-in Incomplete s at (length p) (omega arith))
-step-of (counted w r) s at p rest h o e =
+step-of (vector w r) s at p rest h o e =
     let l : length s ≡ at + (w + length p + length rest) = left-length s at _ h e ∙ simp (length-append, length-bytes) in
     let n : be w s at ≡ length p = be-drop w s at ∙ rw (e, append-assoc) (be-of w (length p) (p ++ rest) (o .0)) in
     let a = number-got w s at (part-in Incomplete s at w (omega arith)) in
-    let z : at + w + length p ≡ at + length (fieldBytes (counted w r) p) = rw (length-counted w r p) (omega arith) in
+    let z : at + w + length p ≡ at + length (fieldBytes (vector w r) p) = rw (length-vector w r p) (omega arith) in
     rw (a, n, ruled-in r s at (at + w) (length p) (o .1), ← z) (part-in (r .past) s (at + w) (length p) (omega arith))
 
 -- and what is left then is what stood behind it
@@ -69,10 +69,10 @@ part-of s b n h = rw (le-leb (b + n) (length s) h)
 pub view-of : (f : Field) (s : List ℕ) (at : ℕ) (p rest : List ℕ) → at ≤ length s → drop at s ≡ fieldBytes f p ++ rest → partOf s (viewOf f at p) ≡ p
 view-of (fixed n) s at p rest h e =
     part-of s at (length p) (past-in (fixed n) s at p rest h e) ∙ rw e (take-at p rest (length p) refl)
-view-of (counted w r) s at p rest h e =
+view-of (vector w r) s at p rest h e =
     let q : drop (at + w) s ≡ p ++ rest = rw (← drop-drop w at s, e, append-assoc) (drop-at (bytesOf w (length p)) (p ++ rest) w (length-bytes w (length p))) in
-    let i = past-in (counted w r) s at p rest h e in
-    part-of s (at + w) (length p) (omega (arith, length-counted w r p)) ∙ rw q (take-at p rest (length p) refl)
+    let i = past-in (vector w r) s at p rest h e in
+    part-of s (at + w) (length p) (omega (arith, length-vector w r p)) ∙ rw q (take-at p rest (length p) refl)
 
 bytes-drop : (s : List ℕ) (at : ℕ) → Bytes s → Bytes (drop at s)
 bytes-drop s at b i = rw getD-drop (b (at + i))
@@ -106,14 +106,14 @@ found-at f s at b n e h o m d =
     record { obeys = o; bytes = d; place = ap₂ (λ (x : View) (k : ℕ). record { view = x; next = k }) v m; inside = h }
 
 -- a part that stands behind its length
-counted-at : (w : ℕ) (r : Rule) (s : List ℕ) (at : ℕ) → Bytes s → at + w + be w s at ≤ length s → r .broken (be w s at) ≡ none
-    → Found (counted w r) s at (record { view = view (at + w) (be w s at); next = at + w + be w s at })
-counted-at w r s at b h a =
+vector-at : (w : ℕ) (r : Rule) (s : List ℕ) (at : ℕ) → Bytes s → at + w + be w s at ≤ length s → r .broken (be w s at) ≡ none
+    → Found (vector w r) s at (record { view = view (at + w) (be w s at); next = at + w + be w s at })
+vector-at w r s at b h a =
     let p = partOf s (view (at + w) (be w s at)) in
     let l : length p ≡ be w s at = length-part s (at + w) (be w s at) h in
-    let d : drop at s ≡ fieldBytes (counted w r) p ++ drop (at + w + be w s at) s =
+    let d : drop at s ≡ fieldBytes (vector w r) p ++ drop (at + w + be w s at) s =
     rw (l, append-assoc, ← part-drop s (at + w) (be w s at) h) (front w s at b (omega arith)) in
-    found-at (counted w r) s at (at + w) (be w s at) refl h (rw l (be-lt w s at b), rw l a) (rw (length-counted w r p, l) (omega arith)) d
+    found-at (vector w r) s at (at + w) (be w s at) refl h (rw l (be-lt w s at b), rw l a) (rw (length-vector w r p, l) (omega arith)) d
 
 pub step-back : (f : Field) (s : List ℕ) (at : ℕ) {q : Part} → Bytes s → step f s at ≡ accepted q → Found f s at q
 unfolding step
@@ -121,12 +121,12 @@ step-back (fixed n) s at b e =
     let g = fits Incomplete s at n e in
     let l = length-part s at n (g .inside) in
     rw (g .is) (found-at (fixed n) s at at n refl (g .inside) l (rw l) (part-drop s at n (g .inside)))
-step-back (counted w r) s at b e =
+step-back (vector w r) s at b e =
     let t = then-accepted (numberAt w s at) (λ l. ruled r s at (l .next) (l .value)) e in
     let n = number-is w s at (t .1) in
     let u = ruled-accepted r s at (at + w) (be w s at) (rw (n .is) at (t .2)) in
     let g = fits (r .past) s (at + w) (be w s at) (u .1) in
-    rw (g .is) (counted-at w r s at b (g .inside) (u .0))
+    rw (g .is) (vector-at w r s at b (g .inside) (u .0))
 
 -- the length that stands at a place
 len-at : (w n : ℕ) (s : List ℕ) (at : ℕ) (rest : List ℕ) → at ≤ length s → n < 256 ^ w → drop at s ≡ bytesOf w n ++ rest → (be w s at ≡ n) × (length s ≡ at + w + length rest)
@@ -141,11 +141,11 @@ lack-of s at n = rw length-drop
 pub step-lacks : (f : Field) (s : List ℕ) (at : ℕ) (r : Refusal) → at ≤ length s → Lacks f at (drop at s) r → step f s at ≡ refused r
 unfolding step
 step-lacks (fixed n) s at r h (l, e) = rw (e, ← lack-of s at n) (part-out Incomplete s at n (omega (arith, length-drop at s)))
-step-lacks (counted w k) s at r h (inl (l, e)) = rw (e, ← lack-of s at w, number-no w s at (part-out Incomplete s at w (omega (arith, length-drop at s))))
-step-lacks (counted w k) s at r h (inr (n, rest, l, d, inl (x, q, e))) =
+step-lacks (vector w k) s at r h (inl (l, e)) = rw (e, ← lack-of s at w, number-no w s at (part-out Incomplete s at w (omega (arith, length-drop at s))))
+step-lacks (vector w k) s at r h (inr (n, rest, l, d, inl (x, q, e))) =
     let z = len-at w n s at rest h l d in
     rw (number-got w s at (part-in Incomplete s at w (omega arith)), z .0, e) (ruled-out k s at (at + w) n x q)
-step-lacks (counted w k) s at r h (inr (n, rest, l, d, inr (q, (j, e)))) =
+step-lacks (vector w k) s at r h (inr (n, rest, l, d, inr (q, (j, e)))) =
     let z = len-at w n s at rest h l d in
     let m : length rest ≡ length s - (at + w) = omega arith in
     rw (number-got w s at (part-in Incomplete s at w (omega arith)), z .0, ruled-in k s at (at + w) n q, e, m) (part-out (k .past) s (at + w) n (omega arith))
@@ -154,7 +154,7 @@ too-few : (why : Reason) (s : List ℕ) (at n : ℕ) {r : Refusal} → at ≤ le
 too-few why s at n h g = (rw length-drop (omega (arith, g .outside)), g .is ∙ ap (refusal _ _) (lack-of s at n))
 
 -- a step that finds nothing: the bytes lack the field
-lacks-ruled : (w : ℕ) (k : Rule) (s : List ℕ) (at : ℕ) (r : Refusal) → Bytes s → at + w ≤ length s → ruled k s at (at + w) (be w s at) ≡ refused r → Lacks (counted w k) at (drop at s) r
+lacks-ruled : (w : ℕ) (k : Rule) (s : List ℕ) (at : ℕ) (r : Refusal) → Bytes s → at + w ≤ length s → ruled k s at (at + w) (be w s at) ≡ refused r → Lacks (vector w k) at (drop at s) r
 lacks-ruled w k s at r b h e = inr (be w s at, drop (at + w) s, be-lt w s at b, front w s at b h, go (ruled-refused k s at (at + w) (be w s at) e))
   where
     go : ((x : ℕ → ℕ → Refusal) × (k .broken (be w s at) ≡ some x) × (r ≡ x at (at + w))) ⊎ ((k .broken (be w s at) ≡ none) × (partAt (k .past) s (at + w) (be w s at) ≡ refused r))
@@ -165,9 +165,9 @@ lacks-ruled w k s at r b h e = inr (be w s at, drop (at + w) s, be-lt w s at b, 
 pub lacks-back : (f : Field) (s : List ℕ) (at : ℕ) (r : Refusal) → Bytes s → at ≤ length s → step f s at ≡ refused r → Lacks f at (drop at s) r
 unfolding step
 lacks-back (fixed n) s at r b h e = too-few Incomplete s at n h (short Incomplete s at n e)
-lacks-back (counted w k) s at r b h e = go (then-refused (numberAt w s at) (λ l. ruled k s at (l .next) (l .value)) e)
+lacks-back (vector w k) s at r b h e = go (then-refused (numberAt w s at) (λ l. ruled k s at (l .next) (l .value)) e)
   where
-    go : (numberAt w s at ≡ refused r) ⊎ ((l : Number) × (numberAt w s at ≡ accepted l) × (ruled k s at (l .next) (l .value) ≡ refused r)) → Lacks (counted w k) at (drop at s) r
+    go : (numberAt w s at ≡ refused r) ⊎ ((l : Number) × (numberAt w s at ≡ accepted l) × (ruled k s at (l .next) (l .value) ≡ refused r)) → Lacks (vector w k) at (drop at s) r
     go (inl q) = inl (too-few Incomplete s at w h (number-short w s at q))
     go (inr (l, q, x)) =
         let n = number-is w s at q in

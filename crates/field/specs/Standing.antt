@@ -2,27 +2,27 @@
 -- bytes to lack it. RFC 5246 4.3.
 use Rattle.refusal.specs.{ℕ, _+_, _-_, _^_, _<_, _≡_, _⊎_, List, _++_, none, some, length, refusal, Reason, Incomplete, Refusal}
 use Rattle.wire.specs.{bytesOf, View}
-use Rattle.field.specs.Fields.{Field, fixed, counted, Rule}
+use Rattle.field.specs.Fields.{Field, fixed, vector, Rule}
 
 -- a field's bytes: the part, behind its length where it is counted
 abbrev pub fieldBytes : Field → List ℕ → List ℕ
 fieldBytes (fixed n) p = p
-fieldBytes (counted w r) p = bytesOf w (length p) ++ p
+fieldBytes (vector w r) p = bytesOf w (length p) ++ p
 
 -- the part is one of the field: of the fixed length, or of one that w bytes can hold and that gets no refusal
 abbrev pub Obeys : Field → List ℕ → Type 0
 Obeys (fixed n) p = length p ≡ n
-Obeys (counted w r) p = (length p < 256 ^ w) × (r .broken (length p) ≡ none)
+Obeys (vector w r) p = (length p < 256 ^ w) × (r .broken (length p) ≡ none)
 
 -- the bytes that a field takes at least
 abbrev pub least : Field → ℕ
 least (fixed n) = n
-least (counted w r) = w
+least (vector w r) = w
 
 -- where the part of a field begins, and the part's view, for a field that begins at a place
 abbrev pub placeOf : Field → ℕ → ℕ
 placeOf (fixed n) at = at
-placeOf (counted w r) at = at + w
+placeOf (vector w r) at = at + w
 
 abbrev pub viewOf : Field → ℕ → List ℕ → View
 viewOf f at p = record { start = placeOf f at; len = length p }
@@ -45,6 +45,6 @@ BadPart k n at behind b r =
 -- length that stands there is refused, or too few bytes follow it
 abbrev pub Lacks : Field → ℕ → List ℕ → Refusal → Type 0
 Lacks (fixed n) at b r = TooFew Incomplete n at b r
-Lacks (counted w k) at b r =
+Lacks (vector w k) at b r =
     TooFew Incomplete w at b r
     ⊎ ((n : ℕ) × (rest : List ℕ) × (n < 256 ^ w) × (b ≡ bytesOf w n ++ rest) × BadPart k n at (at + w) rest r)

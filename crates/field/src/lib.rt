@@ -17,7 +17,7 @@ use wire::output::WriteAnswer;
 use wire::view::PartAnswer;
 
 // What stands behind a length, which decides the rule of its length.
-pub enum Kind {
+pub enum RuleName {
     Plain,
     SessionId,
     Ciphers,
@@ -32,47 +32,47 @@ pub fn take(s: &[u8], at: usize, n: usize) -> PartAnswer
     wire::view::take_or(s, at, n, Reason::Incomplete)
 }
 
-fn allows(kind: Kind, n: usize) -> bool
-    ensures { λ r. ⌜ r ≡ allows (ruleOf kind) n ⌝ }
+fn allows(rule: RuleName, n: usize) -> bool
+    ensures { λ r. ⌜ r ≡ allows (ruleOf rule) n ⌝ }
 {
-    match kind {
-        Kind::Plain => true,
-        Kind::SessionId => n <= 32,
-        Kind::Ciphers => n % 2 == 0,
-        Kind::Methods => true,
-        Kind::Fragment => n <= 16_640,
+    match rule {
+        RuleName::Plain => true,
+        RuleName::SessionId => n <= 32,
+        RuleName::Ciphers => n % 2 == 0,
+        RuleName::Methods => true,
+        RuleName::Fragment => n <= 16_640,
     }
 }
 
-// The refusal of a length that the kind does not allow: the length stands at `at`, its bytes begin at `next`.
-fn broken(kind: Kind, at: usize, next: usize) -> Refusal
-    ensures { λ r. ⌜ ((s : List ℕ) (n : ℕ) → allows (ruleOf kind) n ≡ false → ruled (ruleOf kind) s at next n ≡ Answer.refused r) ⌝ }
+// The refusal of a length that the rule does not allow: the length stands at `at`, its bytes begin at `next`.
+fn broken(rule: RuleName, at: usize, next: usize) -> Refusal
+    ensures { λ r. ⌜ ((s : List ℕ) (n : ℕ) → allows (ruleOf rule) n ≡ false → ruled (ruleOf rule) s at next n ≡ Answer.refused r) ⌝ }
 {
-    match kind {
-        Kind::Plain => refusal::refuse(Reason::Incomplete, next, 0),
-        Kind::SessionId => refusal::refuse(Reason::Verify, at, 0),
-        Kind::Ciphers => refusal::refuse(Reason::LengthValue, next, 0),
-        Kind::Methods => refusal::refuse(Reason::LengthValue, next, 0),
-        Kind::Fragment => refusal::refuse(Reason::TooLarge, at, 0),
+    match rule {
+        RuleName::Plain => refusal::refuse(Reason::Incomplete, next, 0),
+        RuleName::SessionId => refusal::refuse(Reason::Verify, at, 0),
+        RuleName::Ciphers => refusal::refuse(Reason::LengthValue, next, 0),
+        RuleName::Methods => refusal::refuse(Reason::LengthValue, next, 0),
+        RuleName::Fragment => refusal::refuse(Reason::TooLarge, at, 0),
     }
 }
 
 // The refusal where the bytes run past the end.
-fn past(kind: Kind) -> Reason
-    ensures { λ r. ⌜ r ≡ ruleOf kind .past ⌝ }
+fn past(rule: RuleName) -> Reason
+    ensures { λ r. ⌜ r ≡ ruleOf rule .past ⌝ }
 {
-    match kind {
-        Kind::Plain => Reason::Incomplete,
-        Kind::SessionId => Reason::Incomplete,
-        Kind::Ciphers => Reason::LengthValue,
-        Kind::Methods => Reason::LengthValue,
-        Kind::Fragment => Reason::Incomplete,
+    match rule {
+        RuleName::Plain => Reason::Incomplete,
+        RuleName::SessionId => Reason::Incomplete,
+        RuleName::Ciphers => Reason::LengthValue,
+        RuleName::Methods => Reason::LengthValue,
+        RuleName::Fragment => Reason::Incomplete,
     }
 }
 
 // A part behind its length.
-pub fn length_data(s: &[u8], at: usize, w: Width, kind: Kind) -> PartAnswer
-    ensures { λ r. ⌜ partSays r ≡ step (Field.counted (bytesIn w) (ruleOf kind)) (now (s .entry)) at ⌝ }
+pub fn length_data(s: &[u8], at: usize, w: Width, rule: RuleName) -> PartAnswer
+    ensures { λ r. ⌜ partSays r ≡ step (Field.vector (bytesIn w) (ruleOf rule)) (now (s .entry)) at ⌝ }
 {
     let n = match wire::number::parse_be(s, at, w) {
         NumberAnswer::Refused(r) => {
@@ -80,44 +80,44 @@ pub fn length_data(s: &[u8], at: usize, w: Width, kind: Kind) -> PartAnswer
         }
         NumberAnswer::Got(n) => n,
     };
-    if allows(kind, n.value) {
-        wire::view::take_or(s, n.next, n.value, past(kind))
+    if allows(rule, n.value) {
+        wire::view::take_or(s, n.next, n.value, past(rule))
     } else {
-        PartAnswer::Refused(broken(kind, at, n.next))
+        PartAnswer::Refused(broken(rule, at, n.next))
     }
 }
 
 // Whether `n` bytes may be written behind a length of that width.
-pub fn may_follow(w: Width, kind: Kind, n: usize) -> bool
-    ensures { λ r. ⌜ r ≡ allowed (Field.counted (bytesIn w) (ruleOf kind)) n ⌝ }
+pub fn may_follow(w: Width, rule: RuleName, n: usize) -> bool
+    ensures { λ r. ⌜ r ≡ allowed (Field.vector (bytesIn w) (ruleOf rule)) n ⌝ }
 {
     if wire::number::width_holds(w, n) {
-        allows(kind, n)
+        allows(rule, n)
     } else {
         false
     }
 }
 
 // The refusal to write a part of another length.
-fn unfit(kind: Kind) -> Reason
-    ensures { λ r. ⌜ r ≡ ruleOf kind .unfit ⌝ }
+fn unfit(rule: RuleName) -> Reason
+    ensures { λ r. ⌜ r ≡ ruleOf rule .unfit ⌝ }
 {
-    match kind {
-        Kind::Plain => Reason::BadLength,
-        Kind::SessionId => Reason::BadLength,
-        Kind::Ciphers => Reason::BadLength,
-        Kind::Methods => Reason::BadLength,
-        Kind::Fragment => Reason::TooLarge,
+    match rule {
+        RuleName::Plain => Reason::BadLength,
+        RuleName::SessionId => Reason::BadLength,
+        RuleName::Ciphers => Reason::BadLength,
+        RuleName::Methods => Reason::BadLength,
+        RuleName::Fragment => Reason::TooLarge,
     }
 }
 
 // Writes a part behind its length: the refusal of a length that may not be written, then NoRoom. A refusal changes no byte.
-pub fn gen_length_data(out: &mut [u8], at: usize, w: Width, kind: Kind, part: &[u8]) -> WriteAnswer
-    ensures { λ r. ⌜ writeSays r ≡ room (fieldText (Field.counted (bytesIn w) (ruleOf kind)) (now (part .entry))) at (now (out .entry)) ⌝ }
-    ensures { λ _. ⌜ now (out .exit) ≡ written (fieldText (Field.counted (bytesIn w) (ruleOf kind)) (now (part .entry))) at (now (out .entry)) ⌝ }
+pub fn gen_length_data(out: &mut [u8], at: usize, w: Width, rule: RuleName, part: &[u8]) -> WriteAnswer
+    ensures { λ r. ⌜ writeSays r ≡ room (fieldText (Field.vector (bytesIn w) (ruleOf rule)) (now (part .entry))) at (now (out .entry)) ⌝ }
+    ensures { λ _. ⌜ now (out .exit) ≡ written (fieldText (Field.vector (bytesIn w) (ruleOf rule)) (now (part .entry))) at (now (out .entry)) ⌝ }
 {
     let n = part.len();
-    if may_follow(w, kind, n) {
+    if may_follow(w, rule, n) {
         let count = wire::number::width_bytes(w);
         match wire::output::room_for(out, at, count + n) {
             PartAnswer::Refused(r) => WriteAnswer::Refused(r),
@@ -128,6 +128,6 @@ pub fn gen_length_data(out: &mut [u8], at: usize, w: Width, kind: Kind, part: &[
             }
         }
     } else {
-        WriteAnswer::Refused(refusal::unplaced(unfit(kind)))
+        WriteAnswer::Refused(refusal::unplaced(unfit(rule)))
     }
 }

@@ -16,13 +16,13 @@ use Rattle.wire.specs.declared.view.View.{View}
 use Rattle.wire.specs.declared.view.Part.{Part}
 use Rattle.wire.specs.declared.view.OptView.{OptView}
 use Rattle.wire.specs.declared.view.OptView.the-variants.{Absent, Present}
-use Rattle.field.specs.Fields.{Field, fixed, counted, step}
+use Rattle.field.specs.Fields.{Field, fixed, vector, step}
 use Rattle.field.specs.Standing.{fieldBytes, placeOf}
 use Rattle.grammar.specs.Grammars.{How, Row, Grammar, each, Views, Parts, Handed}
 use Rattle.grammar.specs.Reading.{fieldsAt, ifFits, blockAt, lastAt, withLast, read}
 use Rattle.grammar.specs.Splits.{AllObey, join, Pieces, blockBytes, BlockObeys, Split, viewsOf, blockView, handedOf, blockOf, FirstLacks}
 use Rattle.grammar.specs.declared.OptPart.{OptPart}
-use Rattle.field.proofs.Steps.{length-counted, step-of, left-of, past-in, view-of, Found, step-back, step-lacks, lacks-back}
+use Rattle.field.proofs.Steps.{length-vector, step-of, left-of, past-in, view-of, Found, step-back, step-lacks, lacks-back}
 
 -- the bytes that were handed out
 abbrev pub partsOf : List ℕ → (rs : List Row) → Views rs → Parts rs
@@ -192,7 +192,7 @@ later vs (Present v) from at tail h o = (omega arith, o .1)
 
 ends : (f : Field) (at : ℕ) (p : List ℕ) → (at ≤ placeOf f at) × (placeOf f at + length p ≡ at + length (fieldBytes f p))
 ends (fixed n) at p = (omega arith, refl)
-ends (counted w r) at p = (omega arith, rw (length-counted w r p) (omega arith))
+ends (vector w r) at p = (omega arith, rw (length-vector w r p) (omega arith))
 
 ordered : (rs : List Row) (at : ℕ) (ps : Parts rs) (e : OptView) (tail from : ℕ) → from ≤ at → InOrder [] tt e (at + length (join rs ps)) tail → InOrder rs (viewsOf rs at ps) e from tail
 unfolding viewsOf join

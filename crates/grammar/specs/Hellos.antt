@@ -2,7 +2,7 @@
 -- 7.4.1.4 (extensions). The draft 18 hello is draft-ietf-tls-tls13-18's, 4.1.3.
 use Rattle.refusal.specs.{[], _∷_, Bool, false, none, some}
 use Rattle.wire.specs.{pick}
-use Rattle.field.specs.{Field, fixed, counted, sized, ruleOf, SessionId, Ciphers, Methods}
+use Rattle.field.specs.{Field, fixed, vector, sized, ruleOf, SessionId, Ciphers, Methods}
 use Rattle.grammar.specs.Grammars.{Row, asView, asOpt, asNumber, Grammar}
 
 abbrev pub version : Row
@@ -13,15 +13,15 @@ random = (fixed 32, asView)
 
 -- id length 1 (0 to 32), id; "Id length 0 gives an absent id"
 abbrev pub sessionId : Row
-sessionId = (counted 1 (ruleOf SessionId), asOpt false)
+sessionId = (vector 1 (ruleOf SessionId), asOpt false)
 
 -- cipher length 2 (even, 0 allowed), ciphers: a list of items `fixed 2`
 abbrev pub ciphers : Row
-ciphers = (counted 2 (ruleOf Ciphers), asView)
+ciphers = (vector 2 (ruleOf Ciphers), asView)
 
 -- compression length 1 (0 allowed), methods: a list of items `fixed 1`
 abbrev pub methods : Row
-methods = (counted 1 (ruleOf Methods), asView)
+methods = (vector 1 (ruleOf Methods), asView)
 
 abbrev pub cipher : Row
 cipher = (fixed 2, asNumber 2)

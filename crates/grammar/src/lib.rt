@@ -3,7 +3,7 @@ ghost use mathlib.Core.Path.{_≡_};
 ghost use Rattle.wire.specs.Numbers.{bytesIn};
 ghost use Rattle.field.specs.Fields.{Field, ruleOf};
 ghost use Rattle.grammar.specs.Reading.{blockAt};
-use field::Kind;
+use field::RuleName;
 use wire::number::Width;
 use wire::view::OptView;
 use wire::view::PartAnswer;
@@ -15,10 +15,10 @@ pub struct OptPart {
 }
 
 // The block behind its length where both are there. Otherwise it is absent, and nothing is consumed for it.
-pub fn opt_length_data(s: &[u8], at: usize, w: Width, kind: Kind) -> OptPart
-    ensures { λ r. ⌜ r ≡ blockAt (Field.counted (bytesIn w) (ruleOf kind)) (now (s .entry)) at ⌝ }
+pub fn opt_length_data(s: &[u8], at: usize, w: Width, rule: RuleName) -> OptPart
+    ensures { λ r. ⌜ r ≡ blockAt (Field.vector (bytesIn w) (ruleOf rule)) (now (s .entry)) at ⌝ }
 {
-    match field::length_data(s, at, w, kind) {
+    match field::length_data(s, at, w, rule) {
         PartAnswer::Refused(_) => OptPart {
             view: OptView::Absent,
             next: at,

@@ -5,7 +5,7 @@ ghost use Rattle.wire.specs.Numbers.{bytesIn};
 ghost use Rattle.wire.specs.Parts.{partSays};
 ghost use Rattle.field.specs.Fields.{sized};
 ghost use Rattle.list.specs.Items.{items, itemFrom, place};
-use field::Kind;
+use field::RuleName;
 use refusal::Reason;
 use wire::number::Width;
 use wire::view::PartAnswer;
@@ -14,7 +14,7 @@ use wire::view::PartAnswer;
 pub fn item_from(s: &[u8], at: usize, w: Width) -> PartAnswer
     ensures { λ r. ⌜ partSays r ≡ itemFrom (sized (bytesIn w)) (now (s .entry)) at ⌝ }
 {
-    match field::length_data(s, at, w, Kind::Plain) {
+    match field::length_data(s, at, w, RuleName::Plain) {
         PartAnswer::Refused(_) => PartAnswer::Refused(refusal::refuse(Reason::NoSuch, 0, 0)),
         PartAnswer::Got(p) => PartAnswer::Got(p),
     }

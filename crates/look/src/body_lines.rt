@@ -38,7 +38,7 @@ pub(crate) fn certificate(c: TlsCertificateContents, s: &[u8], body: View) {
     let chain = c.cert_chain;
     say::kind(b"Certificate", body);
     say::part(b"certificates", s, body, chain);
-    lists::say_items(s, capture::view_in(s, body, chain), Width::Three);
+    lists::say_items(s, record_joined::view_in(s, body, chain), Width::Three);
 }
 
 // The signature pairs, and an odd byte behind them.
@@ -48,7 +48,7 @@ fn pairs(c: TlsCertificateRequestContents, s: &[u8], body: View) {
     let OptView::Present(v) = sigs else {
         return;
     };
-    lists::say_numbers(s, capture::view_in(s, body, v), Width::Two, 4);
+    lists::say_numbers(s, record_joined::view_in(s, body, v), Width::Two, 4);
     if v.len % 2 == 1 {
         say::text(b"      the odd byte behind them is dropped\n");
     }
@@ -59,10 +59,10 @@ pub(crate) fn request(c: TlsCertificateRequestContents, s: &[u8], body: View) {
     let names = c.unparsed_ca;
     say::kind(b"CertificateRequest", body);
     say::part(b"certificate types", s, body, types);
-    lists::say_numbers(s, capture::view_in(s, body, types), Width::One, 2);
+    lists::say_numbers(s, record_joined::view_in(s, body, types), Width::One, 2);
     pairs(c, s, body);
     say::part(b"names", s, body, names);
-    lists::say_items(s, capture::view_in(s, body, names), Width::Two);
+    lists::say_items(s, record_joined::view_in(s, body, names), Width::Two);
 }
 
 pub(crate) fn status(c: TlsCertificateStatusContents, s: &[u8], body: View) {

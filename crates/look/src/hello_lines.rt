@@ -32,7 +32,7 @@ fn absent(goes_on: bool) {
 fn extensions(ext: OptView, tail: usize, s: &[u8], body: View) {
     let goes_on = tail < body.len;
     match ext {
-        OptView::Present(v) => present(capture::view_in(s, body, v), goes_on),
+        OptView::Present(v) => present(record_joined::view_in(s, body, v), goes_on),
         OptView::Absent => absent(goes_on),
     }
 }
@@ -48,9 +48,9 @@ pub(crate) fn client(c: TlsClientHelloContents, s: &[u8], body: View) {
     say::part(b"random", s, body, random);
     say::opt_part(b"session id", s, body, id);
     say::part(b"ciphers", s, body, ciphers);
-    lists::say_numbers(s, capture::view_in(s, body, ciphers), Width::Two, 4);
+    lists::say_numbers(s, record_joined::view_in(s, body, ciphers), Width::Two, 4);
     say::part(b"methods", s, body, methods);
-    lists::say_numbers(s, capture::view_in(s, body, methods), Width::One, 2);
+    lists::say_numbers(s, record_joined::view_in(s, body, methods), Width::One, 2);
     extensions(ext, c.tail, s, body);
 }
 

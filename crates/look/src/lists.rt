@@ -42,7 +42,7 @@ fn say_dropped(s: &[u8], list: View, end: usize) {
         return;
     }
     say::text(b"      dropped ");
-    say::extent(capture::view_in(
+    say::extent(record_joined::view_in(
         s,
         list,
         View {
@@ -59,7 +59,7 @@ fn each_item(s: &[u8], list: View, w: Width, count: usize) {
     let mut from: usize = 0;
     for k in 0..count {
         if let PartAnswer::Got(p) = norrabist::item_from(items, from, w) {
-            say_item(capture::view_in(s, list, p.view));
+            say_item(record_joined::view_in(s, list, p.view));
             from = p.next;
         }
     }

@@ -45,7 +45,7 @@ fn say_tail(tail: usize, s: &[u8], body: View) {
     }
     let start = body.len - tail;
     say::text(b"    tail ");
-    say::extent(capture::view_in(s, body, View { start, len: tail }));
+    say::extent(record_joined::view_in(s, body, View { start, len: tail }));
     say::text(b"\n");
 }
 
@@ -64,13 +64,13 @@ fn say_place(number: usize, v: View) {
 
 // Tells the message that begins at `at` in the content. None that was counted is refused.
 fn say_message(number: usize, at: usize, head: TlsMessageHead, s: &[u8], content: View) {
-    let body = capture::view_in(s, content, head.body);
-    match norrabist::parse_tls_handshake_body(head.kind, norrabist::part_of(s, body)) {
+    let body = record_joined::view_in(s, content, head.body);
+    match norrabist::parse_tls_handshake_body(head.msg_type, norrabist::part_of(s, body)) {
         MessageAnswer::Refused(_) => {}
         MessageAnswer::Got(m) => {
             say_place(
                 number,
-                capture::view_in(s, content, View { start: at, len: 0 }),
+                record_joined::view_in(s, content, View { start: at, len: 0 }),
             );
             say_opened(m, s, body);
         }
@@ -87,7 +87,7 @@ fn say_dropped(s: &[u8], content: View, dropped: usize, end: usize) {
         return;
     };
     say::text(b"  dropped ");
-    say::extent(capture::view_in(
+    say::extent(record_joined::view_in(
         s,
         content,
         View {

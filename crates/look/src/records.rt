@@ -9,8 +9,8 @@ use norrabist::TlsRawRecord;
 use norrabist::TlsRecordHeader;
 use norrabist::View;
 
-fn say_type(kind: u8) {
-    match kind {
+fn say_type(record_type: u8) {
+    match record_type {
         0x14 => say::text(b"ChangeCipherSpec"),
         0x15 => say::text(b"Alert"),
         0x16 => say::text(b"Handshake"),
@@ -18,7 +18,7 @@ fn say_type(kind: u8) {
         0x18 => say::text(b"Heartbeat"),
         _ => {
             say::text(b"type 0x");
-            say::hex(kind as usize, 2);
+            say::hex(record_type as usize, 2);
         }
     }
 }
@@ -70,7 +70,7 @@ fn say_record(number: usize, at: usize, record: TlsRawRecord, s: &[u8]) {
 fn say_records(s: &[u8], count: usize) {
     let mut at: usize = 0;
     for k in 0..count {
-        if let RawRecordAnswer::Got(record) = capture::record_from(s, at) {
+        if let RawRecordAnswer::Got(record) = record_joined::record_from(s, at) {
             say_record(k + 1, at, record, s);
             at = record.next;
         }
@@ -101,7 +101,7 @@ pub(crate) fn look(s: &[u8]) {
     if s.len() == 0 {
         say::text(b"no record: the input is empty\n");
     }
-    let all = capture::count_records(s);
+    let all = record_joined::count_records(s);
     say_records(s, all.records);
     let rest = norrabist::rest_of(s, all.end);
     say_left(rest, all.end);

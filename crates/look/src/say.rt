@@ -77,7 +77,7 @@ pub(crate) fn part(name: &[u8], s: &[u8], body: View, v: View) {
     text(b"    ");
     text(name);
     text(b" ");
-    extent(capture::view_in(s, body, v));
+    extent(record_joined::view_in(s, body, v));
     text(b"\n");
 }
 

@@ -4,16 +4,16 @@ ghost use lib.ListN.{drop};
 ghost use Rattle.message.specs.Messages.{exchangeTail, tailOf};
 use crate::keyexchange::TlsClientKeyExchangeContents;
 use crate::keyexchange::TlsServerKeyExchangeContents;
-use body::next_protocol::TlsNextProtocolContent;
-use body::retry::TlsHelloRetryRequestContents;
-use body::ticket::TlsNewSessionTicketContent;
-use certs::certificate::TlsCertificateContents;
-use certs::request::TlsCertificateRequestContents;
-use certs::status::TlsCertificateStatusContents;
-use client::TlsClientHelloContents;
+use read_others::next_protocol::TlsNextProtocolContent;
+use read_others::retry::TlsHelloRetryRequestContents;
+use read_others::ticket::TlsNewSessionTicketContent;
+use read_certs::certificate::TlsCertificateContents;
+use read_certs::request::TlsCertificateRequestContents;
+use read_certs::status::TlsCertificateStatusContents;
+use read_client::TlsClientHelloContents;
 use refusal::Refusal;
-use server::tlsv12::TlsServerHelloContents;
-use server::tlsv13draft18::TlsServerHelloV13Draft18Contents;
+use read_server::tlsv12::TlsServerHelloContents;
+use read_server::tlsv13draft18::TlsServerHelloV13Draft18Contents;
 use wire::view::View;
 
 // Every view in it is of the message's body.

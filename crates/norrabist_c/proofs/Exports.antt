@@ -15,7 +15,7 @@ use Rattle.refusal.specs.declared.Refusal.{Refusal}
 use Rattle.refusal.proofs.Then.{not-both, then-accepted}
 use Rattle.wire.specs.Puts.{put, room, written}
 use Rattle.wire.proofs.Puts.{text-refused, length-put}
-use Rattle.text.proofs.Messages.{put-before}
+use Rattle.write_rules.proofs.Messages.{put-before}
 use Rattle.list.specs.Items.{orNoSuch}
 use Rattle.message.specs.declared.handshake.TlsMessageHandshake.{TlsMessageHandshake}
 use Rattle.envelope.specs.Opening.{headAt, Met, metAt, message}
@@ -25,12 +25,12 @@ use Rattle.grammar.specs.Forms.{reading}
 use Rattle.record.specs.Records.{raw, encrypted}
 use Rattle.record.specs.declared.TlsRawRecord.{TlsRawRecord}
 use Rattle.record.specs.declared.TlsEncrypted.{TlsEncrypted}
-use Rattle.walk.specs.Walks.{nextMessage, onTo, moved}
-use Rattle.walk.specs.declared.TlsRecordWalk.{TlsRecordWalk}
-use Rattle.tell.specs.Messages.{messageNumbers, partNumbers}
-use Rattle.array.proofs.Tells.{Tells, in-room, no-room}
-use Rattle.hear.specs.Heard.{heard}
-use Rattle.genmessage.specs.Messages.{handshakeText}
+use Rattle.record_walk.specs.Walks.{nextMessage, onTo, moved}
+use Rattle.record_walk.specs.declared.TlsRecordWalk.{TlsRecordWalk}
+use Rattle.c_tell.specs.MessageNumbers.{messageNumbers, partNumbers}
+use Rattle.c_array.proofs.Tells.{Tells, in-room, no-room}
+use Rattle.c_hear.specs.Heard.{heard}
+use Rattle.write_message.specs.Written.{handshakeText}
 use Rattle.norrabist_c.specs.Told.{answered, countOr, headerNumbers, rawNumbers, metNumbers, handedText}
 
 -- what an export answers of what is told, and what it leaves

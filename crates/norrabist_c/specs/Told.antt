@@ -2,12 +2,12 @@
 -- (`wire/specs/Puts.antt`): the answer is the paper's number, 0 where all of them are in; a refusal, NoRoom among them, changes nothing.
 use Rattle.refusal.specs.{ℕ, List, [], _∷_, _++_, Answer, accepted, refused, then, numberIn}
 use Rattle.wire.specs.{room}
-use Rattle.genmessage.specs.Messages.{handshakeText}
+use Rattle.write_message.specs.Written.{handshakeText}
 use Rattle.envelope.specs.{Met}
 use Rattle.record.specs.{TlsRawRecord, TlsRecordHeader}
-use Rattle.plaintext.specs.{TlsPlaintext, TlsPlaintextOpened}
-use Rattle.tell.specs.Messages.{messageNumbers, partNumbers}
-use Rattle.hear.specs.{heard}
+use Rattle.record_open.specs.{TlsPlaintext, TlsPlaintextOpened}
+use Rattle.c_tell.specs.MessageNumbers.{messageNumbers, partNumbers}
+use Rattle.c_hear.specs.{heard}
 
 -- the paper's number of putting a text in at the front
 abbrev pub answered : Answer (List ℕ) → List ℕ → ℕ

@@ -1,30 +1,30 @@
 // The bodies that the crate opens by themselves too, told as the message that they are.
 ghost use mathlib.Core.Path.{_≡_};
 ghost use Rattle.refusal.specs.Answers.{giving};
-ghost use Rattle.body.specs.Body.{nextProtocol};
-ghost use Rattle.certs.specs.Certs.{certificateRequest, status};
-ghost use Rattle.client.specs.Client.{client};
+ghost use Rattle.read_others.specs.Body.{nextProtocol};
+ghost use Rattle.read_certs.specs.Certs.{certificateRequest, status};
+ghost use Rattle.read_client.specs.Client.{client};
 ghost use Rattle.grammar.specs.Forms.{reading, byVersion};
 ghost use Rattle.message.specs.declared.handshake.TlsMessageHandshake.the-variants.{CertificateRequest, CertificateStatus, ClientHello, NextProtocol, ServerHello};
 ghost use Rattle.norrabist_c.specs.Told.{answered};
-ghost use Rattle.server.specs.Server.{serverVersions};
-ghost use Rattle.tell.specs.Messages.{messageNumbers};
+ghost use Rattle.read_server.specs.Server.{serverVersions};
+ghost use Rattle.c_tell.specs.MessageNumbers.{messageNumbers};
 ghost use Rattle.wire.specs.Puts.{written};
-use body::next_protocol::NextProtocolAnswer;
-use certs::request::CertificateRequestAnswer;
-use certs::status::CertificateStatusAnswer;
-use client::ClientHelloAnswer;
+use read_others::next_protocol::NextProtocolAnswer;
+use read_certs::request::CertificateRequestAnswer;
+use read_certs::status::CertificateStatusAnswer;
+use read_client::ClientHelloAnswer;
 use message::handshake::TlsMessageHandshake;
-use server::tlsv12::ServerHelloAnswer;
+use read_server::tlsv12::ServerHelloAnswer;
 
 #[no_mangle]
 pub extern "C" fn norrabist_parse_tls_handshake_client_hello(i: &[u8], out: &mut [usize]) -> u8
     ensures { λ r. ⌜ r ≡ answered (giving (λ c. messageNumbers (ClientHello c)) (reading client (now (i .entry)))) (now (out .entry)) ⌝ }
     ensures { λ _. ⌜ now (out .exit) ≡ written (giving (λ c. messageNumbers (ClientHello c)) (reading client (now (i .entry)))) 0 (now (out .entry)) ⌝ }
 {
-    match client::parse_tls_handshake_client_hello(i) {
+    match read_client::parse_tls_handshake_client_hello(i) {
         ClientHelloAnswer::Refused(r) => refusal::refusal_number(r),
-        ClientHelloAnswer::Got(c) => tell::tell_message(
+        ClientHelloAnswer::Got(c) => c_tell::tell_message(
             TlsMessageHandshake::ClientHello(c),
             0,
             out,
@@ -38,9 +38,9 @@ pub extern "C" fn norrabist_parse_tls_handshake_server_hello(i: &[u8], out: &mut
     ensures { λ r. ⌜ r ≡ answered (giving (λ c. messageNumbers (ServerHello c)) (byVersion serverVersions (now (i .entry)))) (now (out .entry)) ⌝ }
     ensures { λ _. ⌜ now (out .exit) ≡ written (giving (λ c. messageNumbers (ServerHello c)) (byVersion serverVersions (now (i .entry)))) 0 (now (out .entry)) ⌝ }
 {
-    match server::tlsv12::parse_tls_handshake_server_hello(i) {
+    match read_server::tlsv12::parse_tls_handshake_server_hello(i) {
         ServerHelloAnswer::Refused(r) => refusal::refusal_number(r),
-        ServerHelloAnswer::Got(c) => tell::tell_message(
+        ServerHelloAnswer::Got(c) => c_tell::tell_message(
             TlsMessageHandshake::ServerHello(c),
             0,
             out,
@@ -56,9 +56,9 @@ pub extern "C" fn norrabist_parse_tls_handshake_certificaterequest(
     ensures { λ r. ⌜ r ≡ answered (giving (λ c. messageNumbers (CertificateRequest c)) (certificateRequest (now (i .entry)))) (now (out .entry)) ⌝ }
     ensures { λ _. ⌜ now (out .exit) ≡ written (giving (λ c. messageNumbers (CertificateRequest c)) (certificateRequest (now (i .entry)))) 0 (now (out .entry)) ⌝ }
 {
-    match certs::request::parse_tls_handshake_certificaterequest(i) {
+    match read_certs::request::parse_tls_handshake_certificaterequest(i) {
         CertificateRequestAnswer::Refused(r) => refusal::refusal_number(r),
-        CertificateRequestAnswer::Got(c) => tell::tell_message(
+        CertificateRequestAnswer::Got(c) => c_tell::tell_message(
             TlsMessageHandshake::CertificateRequest(c),
             0,
             out,
@@ -71,9 +71,9 @@ pub extern "C" fn norrabist_parse_tls_handshake_certificatestatus(i: &[u8], out:
     ensures { λ r. ⌜ r ≡ answered (giving (λ c. messageNumbers (CertificateStatus c)) (reading status (now (i .entry)))) (now (out .entry)) ⌝ }
     ensures { λ _. ⌜ now (out .exit) ≡ written (giving (λ c. messageNumbers (CertificateStatus c)) (reading status (now (i .entry)))) 0 (now (out .entry)) ⌝ }
 {
-    match certs::status::parse_tls_handshake_certificatestatus(i) {
+    match read_certs::status::parse_tls_handshake_certificatestatus(i) {
         CertificateStatusAnswer::Refused(r) => refusal::refusal_number(r),
-        CertificateStatusAnswer::Got(c) => tell::tell_message(
+        CertificateStatusAnswer::Got(c) => c_tell::tell_message(
             TlsMessageHandshake::CertificateStatus(c),
             0,
             out,
@@ -86,9 +86,9 @@ pub extern "C" fn norrabist_parse_tls_handshake_next_protocol(i: &[u8], out: &mu
     ensures { λ r. ⌜ r ≡ answered (giving (λ c. messageNumbers (NextProtocol c)) (reading nextProtocol (now (i .entry)))) (now (out .entry)) ⌝ }
     ensures { λ _. ⌜ now (out .exit) ≡ written (giving (λ c. messageNumbers (NextProtocol c)) (reading nextProtocol (now (i .entry)))) 0 (now (out .entry)) ⌝ }
 {
-    match body::next_protocol::parse_tls_handshake_next_protocol(i) {
+    match read_others::next_protocol::parse_tls_handshake_next_protocol(i) {
         NextProtocolAnswer::Refused(r) => refusal::refusal_number(r),
-        NextProtocolAnswer::Got(c) => tell::tell_message(
+        NextProtocolAnswer::Got(c) => c_tell::tell_message(
             TlsMessageHandshake::NextProtocol(c),
             0,
             out,

@@ -5,12 +5,12 @@ ghost use Rattle.envelope.specs.Opening.{metAt, opened};
 ghost use Rattle.list.specs.Items.{orNoSuch};
 ghost use Rattle.norrabist_c.specs.Told.{answered, metNumbers};
 ghost use Rattle.refusal.specs.Answers.{Answer, giving};
-ghost use Rattle.tell.specs.Messages.{messageNumbers};
+ghost use Rattle.c_tell.specs.MessageNumbers.{messageNumbers};
 ghost use Rattle.wire.specs.Puts.{written};
 use envelope::HeadAnswer;
 use message::handshake::MessageAnswer;
 use message::handshake::TlsMessageHandshake;
-use walk::TlsRecordWalk;
+use record_walk::TlsRecordWalk;
 use wire::view::View;
 
 // The message behind its three numbers: nothing is put in unless all are.
@@ -18,12 +18,12 @@ fn tell_met(body: View, next: usize, m: TlsMessageHandshake, out: &mut [usize]) 
     ensures { λ r. ⌜ r ≡ answered (Answer.accepted (body .start ∷ body .len ∷ next ∷ messageNumbers m)) (now (out .entry)) ⌝ }
     ensures { λ _. ⌜ now (out .exit) ≡ written (Answer.accepted (body .start ∷ body .len ∷ next ∷ messageNumbers m)) 0 (now (out .entry)) ⌝ }
 {
-    let refused = tell::tell_message(m, 3, out);
+    let refused = c_tell::tell_message(m, 3, out);
     if refused != 0 {
         return refused;
     }
     let numbers = [body.start, body.len, next];
-    array::gen_numbers(out, 0, &numbers)
+    c_array::gen_numbers(out, 0, &numbers)
 }
 
 // Where the body lies, where the next message begins, and the message, its parts within the body.
@@ -68,16 +68,16 @@ pub extern "C" fn norrabist_record_walk_next(s: &[u8], at: usize, out: &mut [usi
 // The body of a message of that type, `len` its length for the kinds that take one.
 #[no_mangle]
 pub extern "C" fn norrabist_parse_tls_handshake_msg(
-    kind: u8,
+    msg_type: u8,
     i: &[u8],
     len: usize,
     out: &mut [usize],
 ) -> u8
-    ensures { λ r. ⌜ r ≡ answered (giving messageNumbers (opened kind len (now (i .entry)))) (now (out .entry)) ⌝ }
-    ensures { λ _. ⌜ now (out .exit) ≡ written (giving messageNumbers (opened kind len (now (i .entry)))) 0 (now (out .entry)) ⌝ }
+    ensures { λ r. ⌜ r ≡ answered (giving messageNumbers (opened «msg_type» len (now (i .entry)))) (now (out .entry)) ⌝ }
+    ensures { λ _. ⌜ now (out .exit) ≡ written (giving messageNumbers (opened «msg_type» len (now (i .entry)))) 0 (now (out .entry)) ⌝ }
 {
-    match envelope::parse_tls_handshake_msg(kind, i, len) {
+    match envelope::parse_tls_handshake_msg(msg_type, i, len) {
         MessageAnswer::Refused(r) => refusal::refusal_number(r),
-        MessageAnswer::Got(m) => tell::tell_message(m, 0, out),
+        MessageAnswer::Got(m) => c_tell::tell_message(m, 0, out),
     }
 }

@@ -2,13 +2,13 @@
 ghost use mathlib.Core.Path.{_≡_};
 ghost use Rattle.grammar.specs.Forms.{reading};
 ghost use Rattle.norrabist_c.specs.Told.{answered, headerNumbers, openedNumbers, plaintextNumbers, rawNumbers};
-ghost use Rattle.plaintext.specs.Plaintext.{openedFirst, plaintext};
+ghost use Rattle.record_open.specs.Plaintext.{openedFirst, plaintext};
 ghost use Rattle.refusal.specs.Answers.{Answer, giving};
 ghost use Rattle.record.specs.Records.{header, raw};
 ghost use Rattle.wire.specs.Puts.{written};
-use plaintext::OpenedAnswer;
-use plaintext::PlaintextAnswer;
-use plaintext::TlsPlaintextOpened;
+use record_open::OpenedAnswer;
+use record_open::PlaintextAnswer;
+use record_open::TlsPlaintextOpened;
 use record::EncryptedAnswer;
 use record::RawRecordAnswer;
 use record::RecordHeaderAnswer;
@@ -23,7 +23,7 @@ pub extern "C" fn norrabist_parse_tls_record_header(i: &[u8], out: &mut [usize])
         RecordHeaderAnswer::Refused(r) => refusal::refusal_number(r),
         RecordHeaderAnswer::Got(h) => {
             let header_numbers = [h.record_type as usize, h.version as usize, h.len as usize];
-            array::gen_numbers(out, 0, &header_numbers)
+            c_array::gen_numbers(out, 0, &header_numbers)
         }
     }
 }
@@ -47,7 +47,7 @@ pub extern "C" fn norrabist_parse_tls_raw_record(i: &[u8], out: &mut [usize]) ->
                 data.len,
                 x.next,
             ];
-            array::gen_numbers(out, 0, &raw_numbers)
+            c_array::gen_numbers(out, 0, &raw_numbers)
         }
     }
 }
@@ -72,7 +72,7 @@ pub extern "C" fn norrabist_parse_tls_encrypted(i: &[u8], out: &mut [usize]) -> 
                 blob.len,
                 x.next,
             ];
-            array::gen_numbers(out, 0, &encrypted_numbers)
+            c_array::gen_numbers(out, 0, &encrypted_numbers)
         }
     }
 }
@@ -83,7 +83,7 @@ pub extern "C" fn norrabist_parse_tls_plaintext(i: &[u8], out: &mut [usize]) -> 
     ensures { λ r. ⌜ r ≡ answered (giving plaintextNumbers (plaintext (now (i .entry)))) (now (out .entry)) ⌝ }
     ensures { λ _. ⌜ now (out .exit) ≡ written (giving plaintextNumbers (plaintext (now (i .entry)))) 0 (now (out .entry)) ⌝ }
 {
-    match plaintext::parse_tls_plaintext(i) {
+    match record_open::parse_tls_plaintext(i) {
         PlaintextAnswer::Refused(r) => refusal::refusal_number(r),
         PlaintextAnswer::Got(x) => {
             let hdr = x.hdr;
@@ -98,7 +98,7 @@ pub extern "C" fn norrabist_parse_tls_plaintext(i: &[u8], out: &mut [usize]) -> 
                 x.dropped,
                 x.next,
             ];
-            array::gen_numbers(out, 0, &plaintext_numbers)
+            c_array::gen_numbers(out, 0, &plaintext_numbers)
         }
     }
 }
@@ -109,7 +109,7 @@ fn tell_opened(x: TlsPlaintextOpened, out: &mut [usize]) -> u8
     ensures { λ _. ⌜ now (out .exit) ≡ written (Answer.accepted (openedNumbers x)) 0 (now (out .entry)) ⌝ }
 {
     let message = x.message;
-    let refused = tell::tell_message(message, 11, out);
+    let refused = c_tell::tell_message(message, 11, out);
     if refused != 0 {
         return refused;
     }
@@ -131,7 +131,7 @@ fn tell_opened(x: TlsPlaintextOpened, out: &mut [usize]) -> u8
         body.len,
         head.next,
     ];
-    array::gen_numbers(out, 0, &opened_numbers)
+    c_array::gen_numbers(out, 0, &opened_numbers)
 }
 
 // The same as of a plaintext record, then of its first message where the body lies, where the next one begins, and the message, its parts
@@ -141,7 +141,7 @@ pub extern "C" fn norrabist_open_tls_plaintext(i: &[u8], out: &mut [usize]) -> u
     ensures { λ r. ⌜ r ≡ answered (giving openedNumbers (openedFirst (now (i .entry)))) (now (out .entry)) ⌝ }
     ensures { λ _. ⌜ now (out .exit) ≡ written (giving openedNumbers (openedFirst (now (i .entry)))) 0 (now (out .entry)) ⌝ }
 {
-    match plaintext::open_tls_plaintext(i) {
+    match record_open::open_tls_plaintext(i) {
         OpenedAnswer::Refused(r) => refusal::refusal_number(r),
         OpenedAnswer::Got(x) => tell_opened(x, out),
     }

@@ -1,6 +1,6 @@
 // The writers. `count` is set to how many bytes were written, where they were.
 ghost use mathlib.Core.Path.{_≡_};
-ghost use Rattle.genrecord.specs.Records.{recordText};
+ghost use Rattle.write_record.specs.RecordTexts.{recordText};
 ghost use Rattle.norrabist_c.specs.Told.{answered, countOr, handedText, headed};
 ghost use Rattle.wire.specs.Puts.{room, written};
 use message::handshake::MessageAnswer;
@@ -19,13 +19,13 @@ pub extern "C" fn norrabist_gen_tls_messagehandshake(
     ensures { λ _. ⌜ now (out .exit) ≡ written (handedText (now (i .entry)) (now (m .entry))) 0 (now (out .entry)) ⌝ }
     ensures { λ _. ⌜ now (count .exit) ≡ countOr (now (count .entry)) (room (handedText (now (i .entry)) (now (m .entry))) 0 (now (out .entry))) ⌝ }
 {
-    let value = match hear::hear_message(m) {
+    let value = match c_hear::hear_message(m) {
         MessageAnswer::Refused(r) => {
             return refusal::refusal_number(r);
         }
         MessageAnswer::Got(x) => x,
     };
-    match genmessage::gen_tls_messagehandshake(value, i, out) {
+    match write_message::gen_tls_messagehandshake(value, i, out) {
         WriteAnswer::Refused(r) => refusal::refusal_number(r),
         WriteAnswer::Wrote(n) => {
             *count = n;
@@ -52,7 +52,7 @@ pub extern "C" fn norrabist_gen_tls_plaintext(
         version,
         len: 0,
     };
-    match genrecord::gen_tls_plaintext(hdr, msg, out) {
+    match write_record::gen_tls_plaintext(hdr, msg, out) {
         WriteAnswer::Refused(r) => refusal::refusal_number(r),
         WriteAnswer::Wrote(len) => {
             *count = len;

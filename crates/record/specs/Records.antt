@@ -2,7 +2,7 @@
 -- RFC 5246 6.2.1. The rule of the length is `Fragment` of `field/specs/Fields.antt`.
 use Rattle.refusal.specs.{ℕ, List, [], _∷_, none, Answer, accepted, refused, then, giving}
 use Rattle.wire.specs.{numberAt, Absent}
-use Rattle.field.specs.{Field, fixed, counted, ruleOf, Fragment}
+use Rattle.field.specs.{Field, fixed, vector, ruleOf, Fragment}
 use Rattle.grammar.specs.{asView, asNumber, Form, reading}
 use Rattle.record.specs.declared.{EncryptedAnswer.EncryptedAnswer, RawRecordAnswer.RawRecordAnswer, RecordHeaderAnswer.RecordHeaderAnswer, TlsEncrypted.TlsEncrypted, TlsRawRecord.TlsRawRecord, TlsRecordHeader.TlsRecordHeader}
 
@@ -15,7 +15,7 @@ header s =
 
 -- length 2 and content
 abbrev pub fragment : Field
-fragment = counted 2 (ruleOf Fragment)
+fragment = vector 2 (ruleOf Fragment)
 
 -- "Raw and encrypted readers take any type": type 1, version 2, length 2 and content
 abbrev pub raw : Form TlsRawRecord

@@ -2,7 +2,7 @@
 ghost use mathlib.Core.Path.{_≡_};
 ghost use Rattle.grammar.specs.Forms.{reading};
 ghost use Rattle.record.specs.Records.{encrypted, encryptedSays, header, headerSays, raw, rawSays};
-use field::Kind;
+use field::RuleName;
 use refusal::Refusal;
 use wire::number::NumberAnswer;
 use wire::number::Width;
@@ -53,13 +53,13 @@ pub enum EncryptedAnswer {
 pub fn parse_tls_record_header(i: &[u8]) -> RecordHeaderAnswer
     ensures { λ r. ⌜ headerSays r ≡ header (now (i .entry)) ⌝ }
 {
-    let kind = match wire::number::parse_be(i, 0, Width::One) {
+    let record_type = match wire::number::parse_be(i, 0, Width::One) {
         NumberAnswer::Refused(r) => {
             return RecordHeaderAnswer::Refused(r);
         }
         NumberAnswer::Got(n) => n,
     };
-    let version = match wire::number::parse_be(i, kind.next, Width::Two) {
+    let version = match wire::number::parse_be(i, record_type.next, Width::Two) {
         NumberAnswer::Refused(r) => {
             return RecordHeaderAnswer::Refused(r);
         }
@@ -72,7 +72,7 @@ pub fn parse_tls_record_header(i: &[u8]) -> RecordHeaderAnswer
         NumberAnswer::Got(n) => n,
     };
     RecordHeaderAnswer::Got(TlsRecordHeader {
-        record_type: kind.value as u8,
+        record_type: record_type.value as u8,
         version: version.value as u16,
         len: len.value as u16,
     })
@@ -82,19 +82,19 @@ pub fn parse_tls_record_header(i: &[u8]) -> RecordHeaderAnswer
 pub fn parse_tls_raw_record(i: &[u8]) -> RawRecordAnswer
     ensures { λ r. ⌜ rawSays r ≡ reading raw (now (i .entry)) ⌝ }
 {
-    let kind = match wire::number::parse_be(i, 0, Width::One) {
+    let record_type = match wire::number::parse_be(i, 0, Width::One) {
         NumberAnswer::Refused(r) => {
             return RawRecordAnswer::Refused(r);
         }
         NumberAnswer::Got(n) => n,
     };
-    let version = match wire::number::parse_be(i, kind.next, Width::Two) {
+    let version = match wire::number::parse_be(i, record_type.next, Width::Two) {
         NumberAnswer::Refused(r) => {
             return RawRecordAnswer::Refused(r);
         }
         NumberAnswer::Got(n) => n,
     };
-    let fragment = match field::length_data(i, version.next, Width::Two, Kind::Fragment) {
+    let fragment = match field::length_data(i, version.next, Width::Two, RuleName::Fragment) {
         PartAnswer::Refused(r) => {
             return RawRecordAnswer::Refused(r);
         }
@@ -102,7 +102,7 @@ pub fn parse_tls_raw_record(i: &[u8]) -> RawRecordAnswer
     };
     let data = fragment.view;
     let hdr = TlsRecordHeader {
-        record_type: kind.value as u8,
+        record_type: record_type.value as u8,
         version: version.value as u16,
         len: data.len as u16,
     };

@@ -7,26 +7,26 @@ use Rattle.wire.proofs.Puts.{one-write}
 use Rattle.field.specs.Fields.{fixed, sized}
 use Rattle.list.proofs.Fields.{none-more}
 use Rattle.list.proofs.Listed.{by-items}
-use Rattle.hello.proofs.Begun.{one-start}
-use Rattle.client.proofs.Whole as client
-use Rattle.server.proofs.Whole as server
-use Rattle.certs.proofs.Whole as certs
-use Rattle.chain.proofs.Same.{every-reader}
-use Rattle.body.proofs.Whole as body
+use Rattle.read_start.proofs.Begun.{one-start}
+use Rattle.read_client.proofs.Whole as client
+use Rattle.read_server.proofs.Whole as server
+use Rattle.read_certs.proofs.Whole as certs
+use Rattle.cert_reader.proofs.Same.{every-reader}
+use Rattle.read_others.proofs.Whole as body
 use Rattle.message.proofs.Answers.{one-message}
-use Rattle.hellos.proofs.Opened as hellos
+use Rattle.open_hellos.proofs.Opened as hellos
 use Rattle.envelope.proofs.Answers.{one-head}
-use Rattle.walk.proofs.Walking.{every-walk}
+use Rattle.record_walk.proofs.Walking.{every-walk}
 use Rattle.record.proofs.Whole as records
-use Rattle.plaintext.proofs.Answers.{one-plaintext, one-opened}
-use Rattle.capture.proofs.Captures.{no-record-more, same-bytes}
-use Rattle.hear.proofs.Again.{heard-again}
-use Rattle.wayback.proofs.Hellos.{every-text}
-use Rattle.wayback.proofs.Demand3 as back
-use Rattle.wayback.proofs.WayBack.{way-back}
-use Rattle.readings.proofs.Rows.{each-row}
-use Rattle.readcases.proofs.Table.{every-reading}
-use Rattle.writecases.proofs.Writers.{every-writing}
+use Rattle.record_open.proofs.Answers.{one-plaintext, one-opened}
+use Rattle.record_joined.proofs.Captures.{no-record-more, same-bytes}
+use Rattle.c_hear.proofs.HeardBack.{heard-again}
+use Rattle.claim_wayback.proofs.Hellos.{every-text}
+use Rattle.claim_wayback.proofs.Demand3 as back
+use Rattle.claim_wayback.proofs.WayBack.{way-back}
+use Rattle.claim_rows.proofs.Rows.{each-row}
+use Rattle.claim_readers.proofs.Table.{every-reading}
+use Rattle.claim_writers.proofs.Writers.{every-writing}
 use Rattle.claims.proofs.Crossed.{header-and-record, tells-its-type, every-type}
 use Rattle.claims.proofs.all_claims.Statement.{statement}
 use Rattle.claims.proofs.all_claims.Tie as tie

@@ -8,7 +8,7 @@ use Rattle.wire.specs.Parts.{partSays}
 use Rattle.wire.proofs.Parts.{room-fits}
 use Rattle.wire.proofs.Numbers.{width-bounds}
 use Rattle.field.specs.Fields.{ruleOf}
-use Rattle.field.proofs.Texts.{below, counted-not, counted-out, counted-in}
+use Rattle.field.proofs.Texts.{below, vector-not, vector-out, vector-in}
 use borrow.Author.Needs.{needs}
 use Rattle.field.proofs.gen_length_data.Statement.{statement}
 use Rattle.field.proofs.gen_length_data.Tie as tie
@@ -23,7 +23,7 @@ add-room-for : tie.Need-add-room-for
 add-room-for c =
     let m = c .before .before .before in
     let a = m .before .before .before .args in
-    omega (arith, width-bounds (a .w), below _ (ruleOf (a .kind)) _ (width-bounds (a .w) .1) (sym (m .may-follow .ensures) ∙ c .before .before .if1 .taken))
+    omega (arith, width-bounds (a .w), below _ (ruleOf (a .rule)) _ (width-bounds (a .w) .1) (sym (m .may-follow .ensures) ∙ c .before .before .if1 .taken))
 
 room-for-requires : tie.Need-room-for-requires
 room-for-requires c κs = search needs
@@ -59,7 +59,7 @@ returns c =
     let k = c .before .before .before in
     let m = k .before .before .before .before in
     let e = case partSays (k .room-for .ensures) (c .before .r .given .1) in
-    let o = counted-out _ (ruleOf (m .before .before .before .args .kind)) _ _ _ (sym (m .may-follow .ensures) ∙ k .before .before .before .if1 .taken) (rw (k .before .before .width-bytes .ensures) at e) in
+    let o = vector-out _ (ruleOf (m .before .before .before .args .rule)) _ _ _ (sym (m .may-follow .ensures) ∙ k .before .before .before .if1 .taken) (rw (k .before .before .width-bytes .ensures) at e) in
     (sym (o .says), sym (o .leaves))
 
 same-length-2 : tie.Need-same-length-2
@@ -74,7 +74,7 @@ returns-2 c =
     let m = k .before .before .before .before in
     let w = k .before .before .width-bytes .ensures in
     let e = case partSays (k .room-for .ensures) (p .p .given .1) in
-    let o = counted-in _ (ruleOf (m .before .before .before .args .kind)) _ _ _ _ _ (sym (m .may-follow .ensures) ∙ k .before .before .before .if1 .taken) (rw w at e)
+    let o = vector-in _ (ruleOf (m .before .before .before .args .rule)) _ _ _ _ _ (sym (m .may-follow .ensures) ∙ k .before .before .before .if1 .taken) (rw w at e)
     (b .gen-be .ensures .1) (rw w at (g .gen-bytes .ensures .1)) in
     (sym (o .says), sym (o .leaves))
 
@@ -82,7 +82,7 @@ returns-3 : tie.Need-returns-3
 returns-3 c =
     let m = c .before .before .before in
     let a = m .before .before .before .args in
-    let o = counted-not _ (ruleOf (a .kind)) _ _ _ (sym (m .may-follow .ensures) ∙ c .before .before .if1 .left) in
+    let o = vector-not _ (ruleOf (a .rule)) _ _ _ (sym (m .may-follow .ensures) ∙ c .before .before .if1 .left) in
     (ap refused (c .unplaced .ensures ∙ rw (c .before .unfit .ensures)) ∙ sym (o .says), sym (o .leaves))
 
 pub gen-length-data-spec : {M : Type 1} → statement M

@@ -38,7 +38,7 @@ unfolding step
 returns-2 c =
     let t = c .before .before in
     let k = t .before .before .before in
-    let a = allows-none (ruleOf (k .before .before .before .before .args .kind)) (k .n .given .0 .0 .value) (sym (t .before .allows .ensures) ∙ t .if1 .taken) in
+    let a = allows-none (ruleOf (k .before .before .before .before .args .rule)) (k .n .given .0 .0 .value) (sym (t .before .allows .ensures) ∙ t .if1 .taken) in
     rw (case numberSays (k .before .before .parse-be .ensures .0) (k .n .given .1))
     (rw (c .before .past .ensures) at (c .take-or .ensures) ∙ sym (ruled-in _ _ _ _ _ a))
 

@@ -10,8 +10,8 @@ use Rattle.wire.specs.Parts.{partSays}
 use Rattle.wire.specs.Numbers.{numberSays}
 use Rattle.wire.proofs.Numbers.{number-value, below-limit}
 use Rattle.field.specs.Fields.{fixed, ruleOf}
-use Rattle.field.specs.declared.Kind.the-variants.{Fragment}
-use Rattle.field.proofs.Rules.{number-field, number-field-no, counted-lies, unless-none}
+use Rattle.field.specs.declared.RuleName.the-variants.{Fragment}
+use Rattle.field.proofs.Rules.{number-field, number-field-no, vector-lies, unless-none}
 use Rattle.grammar.specs.Grammars.{asView, asNumber}
 use Rattle.grammar.specs.Forms.{reading}
 use Rattle.grammar.proofs.Chain.{So, begin, and, stop, end}
@@ -88,7 +88,7 @@ cast-t22 c =
 cast-t23 : tie.Need-cast-t23
 cast-t23 c =
     let g = c .before .before .before .before .before in
-    let l = counted-lies 2 (ruleOf Fragment) _ _ (case partSays (g .before .before .length-data .ensures) (g .p .given .1)) in
+    let l = vector-lies 2 (ruleOf Fragment) _ _ (case partSays (g .before .before .length-data .ensures) (g .p .given .1)) in
     omega (arith, leb-true (g .p .given .0 .0 .view .len) 16640 (unless-none _ _ (l .allowed)))
 
 returns-4 : tie.Need-returns-4

@@ -1,7 +1,7 @@
 -- `norrabist_c::norrabist_parse_tls_handshake_client_hello` meets its contract: the refusal of the reader, or the numbers of its message.
 -- Assumes nothing.
 use Rattle.refusal.proofs.Told.{case}
-use Rattle.client.specs.Client.{clientSays}
+use Rattle.read_client.specs.Client.{clientSays}
 use Rattle.norrabist_c.proofs.Exports.{none-told, all-told}
 use borrow.Author.Needs.{needs}
 use Rattle.norrabist_c.proofs.contents.norrabist_parse_tls_handshake_client_hello.Statement.{statement}

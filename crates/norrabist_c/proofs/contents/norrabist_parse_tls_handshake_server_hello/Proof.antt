@@ -1,7 +1,7 @@
 -- `norrabist_c::norrabist_parse_tls_handshake_server_hello` meets its contract: the refusal of the reader, or the numbers of its message.
 -- Assumes nothing.
 use Rattle.refusal.proofs.Told.{case}
-use Rattle.server.specs.Server.{serverSays}
+use Rattle.read_server.specs.Server.{serverSays}
 use Rattle.norrabist_c.proofs.Exports.{none-told, all-told}
 use borrow.Author.Needs.{needs}
 use Rattle.norrabist_c.proofs.contents.norrabist_parse_tls_handshake_server_hello.Statement.{statement}

@@ -1,7 +1,7 @@
 -- `norrabist_c::norrabist_open_tls_plaintext` meets its contract: the refusal of the reader, or the numbers of record and message. Assumes
 -- nothing.
 use Rattle.refusal.proofs.Told.{case}
-use Rattle.plaintext.specs.Plaintext.{openedSays}
+use Rattle.record_open.specs.Plaintext.{openedSays}
 use Rattle.norrabist_c.proofs.Exports.{none-told, all-told}
 use borrow.Author.Needs.{needs}
 use Rattle.norrabist_c.proofs.records.norrabist_open_tls_plaintext.Statement.{statement}

@@ -1,7 +1,7 @@
 -- `norrabist_c::norrabist_parse_tls_plaintext` meets its contract: the refusal of the reader, or the numbers of what it read. Assumes
 -- nothing.
 use Rattle.refusal.proofs.Told.{case}
-use Rattle.plaintext.specs.Plaintext.{plaintextSays}
+use Rattle.record_open.specs.Plaintext.{plaintextSays}
 use Rattle.norrabist_c.proofs.Exports.{none-told, all-told}
 use borrow.Author.Needs.{needs}
 use Rattle.norrabist_c.proofs.records.norrabist_parse_tls_plaintext.Statement.{statement}

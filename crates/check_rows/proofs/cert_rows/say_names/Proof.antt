@@ -1,0 +1,98 @@
+-- `check_rows::cert_rows::say_names` is safe and ends: each turn leaves one place less. Assumes nothing.
+use Prim.Native.Nat.{_-_}
+use borrow.Author.Needs.{needs}
+use Rattle.check_rows.proofs.cert_rows.say_names.Statement.{statement}
+use Rattle.check_rows.proofs.cert_rows.say_names.Tie as tie
+
+abbrev Inv-loop : tie.InvT-loop
+Inv-loop s c list count at₀ k₀ t11 at k = Unit
+
+abbrev μ-loop : tie.MeasureT-loop
+μ-loop s c list count at₀ k₀ t11 at k = count - k
+
+part-of-requires : tie.Need-part-of-requires Inv-loop μ-loop
+part-of-requires c κs = search needs
+
+ca-count-requires : tie.Need-ca-count-requires Inv-loop μ-loop
+ca-count-requires c κs = search needs
+
+slice-aggregate-text : tie.Need-slice-aggregate-text Inv-loop μ-loop
+slice-aggregate-text c = search needs
+
+text-requires : tie.Need-text-requires Inv-loop μ-loop
+text-requires c κs = search needs
+
+number-requires : tie.Need-number-requires Inv-loop μ-loop
+number-requires c κs = search needs
+
+slice-aggregate-text-2 : tie.Need-slice-aggregate-text-2 Inv-loop μ-loop
+slice-aggregate-text-2 c = search needs
+
+text-requires-2 : tie.Need-text-requires-2 Inv-loop μ-loop
+text-requires-2 c κs = search needs
+
+loop-holds : tie.Need-loop-holds Inv-loop μ-loop
+loop-holds c = search needs
+
+ca-from-requires : tie.Need-ca-from-requires Inv-loop μ-loop
+ca-from-requires c κs = search needs
+
+say-part-requires : tie.Need-say-part-requires Inv-loop μ-loop
+say-part-requires c κs = search needs
+
+enum-known-a : tie.Need-enum-known-a Inv-loop μ-loop
+enum-known-a c = search needs
+
+enum-told : tie.Need-enum-told Inv-loop μ-loop
+enum-told c = search needs
+
+add-k : tie.Need-add-k Inv-loop μ-loop
+add-k c = search needs
+
+loop-less : tie.Need-loop-less Inv-loop μ-loop
+loop-less c = search needs
+
+loop-again : tie.Need-loop-again Inv-loop μ-loop
+loop-again c = search needs
+
+slice-aggregate-text-3 : tie.Need-slice-aggregate-text-3 Inv-loop μ-loop
+slice-aggregate-text-3 c = search needs
+
+text-requires-3 : tie.Need-text-requires-3 Inv-loop μ-loop
+text-requires-3 c κs = search needs
+
+ca-at-requires : tie.Need-ca-at-requires Inv-loop μ-loop
+ca-at-requires c κs = search needs
+
+say-part-requires-2 : tie.Need-say-part-requires-2 Inv-loop μ-loop
+say-part-requires-2 c κs = search needs
+
+returns : tie.Need-returns Inv-loop μ-loop
+returns c = search needs
+
+pub say-names-spec : {M : Type 1} → statement M
+say-names-spec =
+    tie.close
+    (tie.spec
+    Inv-loop
+    μ-loop
+    part-of-requires
+    ca-count-requires
+    slice-aggregate-text
+    text-requires
+    number-requires
+    slice-aggregate-text-2
+    text-requires-2
+    loop-holds
+    ca-from-requires
+    say-part-requires
+    enum-known-a
+    enum-told
+    add-k
+    loop-less
+    loop-again
+    slice-aggregate-text-3
+    text-requires-3
+    ca-at-requires
+    say-part-requires-2
+    returns)

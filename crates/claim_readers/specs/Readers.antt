@@ -1,0 +1,285 @@
+-- Document 01, "What the tap says when it says no": "Each is given only then". The rules of reading a second time, straight from that
+-- document: for each reader the paper's number, by places and lengths in the bytes lent, with no field, rule, grammar or step in it;
+-- `places` alone, of any field's items, takes their count from `items`. At the end, `Readers`, a table: each reader, its case, its
+-- refusals. Shown by `proofs/Table.antt`.
+use Rattle.refusal.specs.{ℕ, zero, suc, _+_, _/_, _%_, _≤_, _≡_, List, [], _∷_, Bool, length, take, drop, leb, ltb, eqb, Answer, numberIn, numberOf, Reason, Incomplete, Complete, Verify, LengthValue, Tag, Switch, TooLarge, Elsewhere, NoSuch, OneOf}
+use Rattle.wire.specs.{pick, be, numberAt, View}
+use Rattle.field.specs.{Field, sized}
+use Rattle.grammar.specs.{reading, byVersion}
+use Rattle.list.specs.{items, place, itemFrom, numberPlace}
+use Rattle.read_start.specs.Start.{helloStart}
+use Rattle.read_client.specs.{client}
+use Rattle.read_server.specs.{server, serverVersions, draft18}
+use Rattle.read_certs.specs.{certificate, certificateRequest, status}
+use Rattle.read_others.specs.Body.{retry, sessionTicket, nextProtocol}
+use Rattle.message.specs.{TlsMessageHandshake}
+use Rattle.open_hellos.specs.HelloMessages.{serverMessage}
+use Rattle.open_whole.specs.Whole.{wholeBody}
+use Rattle.envelope.specs.{headAt, opened, byType, metAt, message}
+use Rattle.record_walk.specs.{metHead, nextMessage, TlsRecordWalk}
+use Rattle.record.specs.{header, raw, encrypted}
+use Rattle.record_open.specs.{plaintext, openedFirst}
+use Rattle.record_joined.specs.Joined.{recordFrom}
+
+-- a check: where it holds, this is the refusal
+abbrev pub Check : Type 0
+Check = Bool × Reason
+
+-- "Checks go in field order": the number of the first that holds; where none does, what is left to say
+unfoldable pub inOrder : List Check → ℕ → ℕ
+inOrder [] k = k
+inOrder ((holds, why) ∷ checks) k = pick holds (numberOf why) (inOrder checks k)
+
+-- the bytes are under n
+abbrev pub under : List ℕ → ℕ → Reason → Check
+under s n why = (ltb (length s) n, why)
+
+-- a number is less than n
+abbrev pub less : ℕ → ℕ → Reason → Check
+less x n why = (ltb x n, why)
+
+-- it is over n
+abbrev pub over : ℕ → ℕ → Reason → Check
+over x n why = (ltb n x, why)
+
+-- it is n
+abbrev pub is : ℕ → ℕ → Reason → Check
+is x n why = (eqb x n, why)
+
+-- ClientHello: version 2, random 32, id length 1 (0 to 32), id, cipher length 2 (even), ciphers, compression length 1, methods
+unfoldable pub clientCase : List ℕ → ℕ
+clientCase s =
+    let id = be 1 s 34 in
+    let cs = be 2 s (35 + id) in
+    let ms = be 1 s (37 + id + cs) in
+    inOrder
+    (under s 35 Incomplete
+    ∷ over id 32 Verify
+    ∷ under s (37 + id) Incomplete
+    ∷ is (cs % 2) 1 LengthValue
+    ∷ under s (37 + id + cs) LengthValue
+    ∷ under s (38 + id + cs) Incomplete
+    ∷ under s (38 + id + cs + ms) LengthValue
+    ∷ [])
+    0
+
+-- what both hellos begin with: version 2, random 32, id length 1 (0 to 32), id
+unfoldable pub startCase : List ℕ → ℕ
+startCase s =
+    let id = be 1 s 34 in
+    inOrder (under s 35 Incomplete ∷ over id 32 Verify ∷ under s (35 + id) Incomplete ∷ []) 0
+
+-- ServerHello, whatever its version: version 2, random 32, id length and id as above, cipher 2, compression 1
+unfoldable pub serverCase : List ℕ → ℕ
+serverCase s =
+    let id = be 1 s 34 in
+    inOrder (under s 35 Incomplete ∷ over id 32 Verify ∷ under s (38 + id) Incomplete ∷ []) 0
+
+-- "The ServerHello version is looked at before anything else; under 2 bytes is Incomplete"; Tag for one not listed
+unfoldable pub byVersionCase : List ℕ → ℕ
+byVersionCase s =
+    let v = be 2 s 0 in
+    inOrder (under s 2 Incomplete ∷ less v 0x0300 Tag ∷ over v 0x0303 Tag ∷ []) (serverCase s)
+
+-- draft 18: version 2, random 32, cipher 2
+unfoldable pub draft18Case : List ℕ → ℕ
+draft18Case s = inOrder (under s 36 Incomplete ∷ []) 0
+
+-- a ServerHello or draft 18's: "Only `parse_tls_handshake_msg_server_hello` opens it; `parse_tls_handshake_server_hello` answers Tag"
+unfoldable pub serverMessageCase : List ℕ → ℕ
+serverMessageCase s = inOrder (under s 2 Incomplete ∷ []) (pick (eqb (be 2 s 0) 0x7f12) (draft18Case s) (byVersionCase s))
+
+-- HelloRetryRequest: version 2, cipher 2
+unfoldable pub retryCase : List ℕ → ℕ
+retryCase s = inOrder (under s 4 Incomplete ∷ []) 0
+
+-- NewSessionTicket of a given length: "the ticket's Verify, for a given length under 4, comes first"
+unfoldable pub ticketCase : ℕ → List ℕ → ℕ
+ticketCase n s = inOrder (less n 4 Verify ∷ under s n Incomplete ∷ []) 0
+
+-- Certificate: length 3, then a list
+unfoldable pub certificateCase : List ℕ → ℕ
+certificateCase s = inOrder (under s 3 Incomplete ∷ under s (3 + be 3 s 0) Incomplete ∷ []) 0
+
+-- CertificateRequest, "If both fail: Complete": type count 1, types, length 2, names. What holds the long form holds the short one too
+unfoldable pub requestCase : List ℕ → ℕ
+requestCase s =
+    let types = be 1 s 0 in
+    let names = be 2 s (1 + types) in
+    inOrder (under s 1 Complete ∷ under s (3 + types) Complete ∷ under s (3 + types + names) Complete ∷ []) 0
+
+-- CertificateStatus: type 1, length 3, blob
+unfoldable pub statusCase : List ℕ → ℕ
+statusCase s = inOrder (under s 4 Incomplete ∷ under s (4 + be 3 s 1) Incomplete ∷ []) 0
+
+-- NextProtocol: two parts, each with length 1
+unfoldable pub nextProtocolCase : List ℕ → ℕ
+nextProtocolCase s =
+    let protocol = be 1 s 0 in
+    let padding = be 1 s (1 + protocol) in
+    inOrder (under s 1 Incomplete ∷ under s (2 + protocol) Incomplete ∷ under s (2 + protocol + padding) Incomplete ∷ []) 0
+
+-- KeyUpdate: one byte
+unfoldable pub keyUpdateCase : List ℕ → ℕ
+keyUpdateCase s = inOrder (under s 1 Incomplete ∷ []) 0
+
+-- a body handed out whole: "Incomplete when the length is more than the bytes"
+unfoldable pub wholeCase : ℕ → List ℕ → ℕ
+wholeCase n s = inOrder (under s n Incomplete ∷ []) 0
+
+-- what stands beside a number in a table, or else
+unfoldable pub beside : ℕ → List (ℕ × ℕ) → ℕ → ℕ
+beside k [] other = other
+beside k ((t, c) ∷ rest) other = pick (eqb k t) c (beside k rest other)
+
+-- a body by its type k: "The type decides", and "All others, 0x03, 0x08 and 0x15 among them: Switch"; n is the length where one is handed
+-- over
+unfoldable pub openedCase : ℕ → ℕ → List ℕ → ℕ
+openedCase k n s =
+    beside k
+    ((0x00, 0)
+    ∷ (0x05, 0)
+    ∷ (0x01, clientCase s)
+    ∷ (0x02, serverMessageCase s)
+    ∷ (0x04, ticketCase n s)
+    ∷ (0x06, retryCase s)
+    ∷ (0x0b, certificateCase s)
+    ∷ (0x0c, wholeCase n s)
+    ∷ (0x0e, wholeCase n s)
+    ∷ (0x0f, wholeCase n s)
+    ∷ (0x14, wholeCase n s)
+    ∷ (0x10, wholeCase n s)
+    ∷ (0x0d, requestCase s)
+    ∷ (0x16, statusCase s)
+    ∷ (0x43, nextProtocolCase s)
+    ∷ (0x18, keyUpdateCase s)
+    ∷ [])
+    (numberOf Switch)
+
+-- a body of its own length
+unfoldable pub bodyCase : ℕ → List ℕ → ℕ
+bodyCase k s = openedCase k (length s) s
+
+-- a message at a place: type 1, length 3, body
+abbrev pub headChecks : ℕ → List ℕ → List Check
+headChecks at s = under s (at + 4) Incomplete ∷ under s (at + 4 + be 3 s (at + 1)) Incomplete ∷ []
+
+-- its head alone
+unfoldable pub headCase : ℕ → List ℕ → ℕ
+headCase at s = inOrder (headChecks at s) 0
+
+-- the message: "Length and body are taken before the type is looked at"
+unfoldable pub metCase : ℕ → List ℕ → ℕ
+metCase at s = inOrder (headChecks at s) (bodyCase (be 1 s at) (take (be 3 s (at + 1)) (drop (at + 4) s)))
+
+-- a record's header: type 1, version 2, length 2
+unfoldable pub headerCase : List ℕ → ℕ
+headerCase s = inOrder (under s 5 Incomplete ∷ []) 0
+
+-- a record: "Order: header Incomplete, TooLarge, body Incomplete, then the type"
+abbrev pub recordChecks : List ℕ → List Check
+recordChecks s = under s 5 Incomplete ∷ over (be 2 s 3) 16640 TooLarge ∷ under s (5 + be 2 s 3) Incomplete ∷ []
+
+-- "Raw and encrypted readers take any type"
+unfoldable pub rawCase : List ℕ → ℕ
+rawCase s = inOrder (recordChecks s) 0
+
+-- "Incomplete from the first message becomes Complete, its other refusals stay"
+abbrev pub ofFirst : ℕ → ℕ
+ofFirst c = pick (eqb c (numberOf Incomplete)) (numberOf Complete) c
+
+-- by a record's type: "Types outside 0x14 to 0x18 are Switch"; 0x14, 0x15, 0x17 and 0x18 are Elsewhere; what is left is 0x16
+unfoldable pub recordTypeCase : ℕ → List ℕ → ℕ
+recordTypeCase t content =
+    inOrder
+    (less t 0x14 Switch ∷ over t 0x18 Switch ∷ is t 0x14 Elsewhere ∷ is t 0x15 Elsewhere ∷ is t 0x17 Elsewhere ∷ is t 0x18 Elsewhere ∷ [])
+    (ofFirst (metCase 0 content))
+
+-- a plaintext record: the type decides after all that
+unfoldable pub plaintextCase : List ℕ → ℕ
+plaintextCase s = inOrder (recordChecks s) (recordTypeCase (be 1 s 0) (take (be 2 s 3) (drop 5 s)))
+
+-- NoSuch: "a list place at or past the count"
+unfoldable pub placeCase : ℕ → ℕ → ℕ
+placeCase k count = inOrder ((leb count k, NoSuch) ∷ []) 0
+
+-- the item (length w, bytes) that begins at a place, where one fits
+unfoldable pub itemCase : ℕ → ℕ → List ℕ → ℕ
+itemCase w at s = inOrder (under s (at + w) NoSuch ∷ under s (at + w + be w s at) NoSuch ∷ []) 0
+
+-- how many of them stand from a place on, `most` a bound for the recursion: "A list inside its announced length ends at the first item that
+-- does not fit"
+unfoldable pub itemCount : ℕ → ℕ → ℕ → List ℕ → ℕ
+itemCount zero w at s = 0
+itemCount (suc most) w at s = pick (eqb (itemCase w at s) 0) (suc (itemCount most w (at + w + be w s at) s)) 0
+
+-- the walk at a place: "past the last message it answers NoSuch"
+unfoldable pub walkCase : ℕ → List ℕ → ℕ
+walkCase at s = pick (eqb (metCase at s) 0) 0 (numberOf NoSuch)
+
+infixr 60 _&_
+-- of each of a list, in order
+pub data All {A : Type 0} (P : A → Type 0) : List A → Type 0 where
+  end : All P []
+  _&_ : {x : A} {xs : List A} → P x → All P xs → All P (x ∷ xs)
+
+-- a reader, its case, its refusals: whatever is lent, its number is that of the case and it gives no other refusal; and it gives each of
+-- them
+pub record Gives {L A : Type 0} (reader : L → Answer A) (case : L → ℕ) (whys : List Reason) : Type 0 where
+  pub equal : (lent : L) → numberIn (reader lent) ≡ case lent
+  pub only : (lent : L) → OneOf whys (numberIn (reader lent))
+  pub each : All (λ why. (lent : L) × (numberIn (reader lent) ≡ numberOf why)) whys
+
+-- a reader that is told something besides the bytes: a length, a type, a place
+abbrev pub GivesTold : {P A : Type 0} → (P → List ℕ → Answer A) → (P → List ℕ → ℕ) → List Reason → Type 0
+GivesTold {P} reader case whys = Gives (λ (lent : P × List ℕ). reader (lent .0) (lent .1)) (λ lent. case (lent .0) (lent .1)) whys
+
+-- the refusals of a message: Complete is a CertificateRequest's
+abbrev pub ofMessage : List Reason
+ofMessage = Incomplete ∷ Complete ∷ Verify ∷ LengthValue ∷ Tag ∷ Switch ∷ []
+
+-- every reader, its case, its refusals
+pub record Readers : Type 0 where
+  -- the hellos, and what two of them begin with
+  pub helloStart : Gives (reading helloStart) startCase (Incomplete ∷ Verify ∷ [])
+  pub clientHello : Gives (reading client) clientCase (Incomplete ∷ Verify ∷ LengthValue ∷ [])
+  pub serverHello : (hasExt : Bool) → Gives (reading (server hasExt)) serverCase (Incomplete ∷ Verify ∷ [])
+  pub serverByVersion : Gives (byVersion serverVersions) byVersionCase (Incomplete ∷ Verify ∷ Tag ∷ [])
+  pub draft18Hello : Gives (reading draft18) draft18Case (Incomplete ∷ [])
+  -- the other bodies
+  pub ofRetry : Gives (reading retry) retryCase (Incomplete ∷ [])
+  pub ofTicket : GivesTold sessionTicket ticketCase (Incomplete ∷ Verify ∷ [])
+  pub ofCertificate : Gives (reading certificate) certificateCase (Incomplete ∷ [])
+  pub ofRequest : Gives certificateRequest requestCase (Complete ∷ [])
+  pub ofStatus : Gives (reading status) statusCase (Incomplete ∷ [])
+  pub ofNextProtocol : Gives (reading nextProtocol) nextProtocolCase (Incomplete ∷ [])
+  pub keyUpdate : Gives (λ s. numberAt 1 s 0) keyUpdateCase (Incomplete ∷ [])
+  -- the same as messages: the ServerHello of either kind, bodies handed out whole; every other is a row of `openedCase`
+  pub serverAs : Gives serverMessage serverMessageCase (Incomplete ∷ Verify ∷ Tag ∷ [])
+  pub wholeAs : (make : View → TlsMessageHandshake) → GivesTold (wholeBody make) wholeCase (Incomplete ∷ [])
+  -- a body by its type, of every type; a message and its head
+  pub opens : (n : ℕ) → GivesTold (λ k. opened k n) (λ k. openedCase k n) ofMessage
+  pub opensAll : GivesTold byType bodyCase ofMessage
+  pub heads : (at : ℕ) → Gives (λ s. headAt s at) (headCase at) (Incomplete ∷ [])
+  pub meets : GivesTold (λ at s. metAt s at) metCase ofMessage
+  pub meetsHead : GivesTold (λ at s. metHead s at) metCase ofMessage
+  pub messageFirst : Gives message (metCase 0) ofMessage
+  -- records
+  pub recordHeader : Gives header headerCase (Incomplete ∷ [])
+  pub rawRecord : Gives (reading raw) rawCase (Incomplete ∷ TooLarge ∷ [])
+  pub encryptedRecord : Gives encrypted rawCase (Incomplete ∷ TooLarge ∷ [])
+  pub recordAt : GivesTold (λ at s. recordFrom s at) (λ at s. rawCase (drop at s)) (Incomplete ∷ TooLarge ∷ [])
+  pub plaintextRecord : Gives plaintext plaintextCase (TooLarge ∷ Elsewhere ∷ ofMessage)
+  pub plaintextOpened : Gives openedFirst plaintextCase (TooLarge ∷ Elsewhere ∷ ofMessage)
+  -- list places: of any field's items, of items (length w, bytes), of numbers of w bytes
+  pub places : (f : Field) (k : ℕ) → Gives (λ s. place k (items f s)) (λ s. placeCase k (length (items f s))) (NoSuch ∷ [])
+  pub itemPlaces : (w k : ℕ) → Gives (λ s. place k (items (sized w) s)) (λ s. placeCase k (itemCount (length s) w 0 s)) (NoSuch ∷ [])
+  pub numberPlaces : (w k : ℕ) → 1 ≤ w → Gives (numberPlace k w) (λ s. placeCase k (length s / w)) (NoSuch ∷ [])
+  -- the item (length w, bytes) and the number of w bytes at a place of the bytes
+  pub itemsFromPlace : (w : ℕ) → GivesTold (λ at s. itemFrom (sized w) s at) (itemCase w) (NoSuch ∷ [])
+  pub numbers : (w : ℕ) → GivesTold (λ at s. numberAt w s at) (λ at. wholeCase (at + w)) (Incomplete ∷ [])
+  -- the walk over a record's content
+  pub walks : (w : TlsRecordWalk) → Gives (λ s. nextMessage s w) (walkCase (w .next)) (NoSuch ∷ [])
+  -- the refusals alone, of numbers of any width and of any field's items
+  pub anyNumberPlace : (w k : ℕ) (s : List ℕ) → OneOf (NoSuch ∷ []) (numberIn (numberPlace k w s))
+  pub anyItemFrom : (f : Field) (at : ℕ) (s : List ℕ) → OneOf (NoSuch ∷ []) (numberIn (itemFrom f s at))

@@ -1,0 +1,31 @@
+-- The rows of `specs/Readings.antt`, each by running the definition. Assumes nothing.
+use mathlib.Core.Path.{refl}
+use Rattle.refusal.specs.Refusals.{refusal, inside}
+use Rattle.wire.specs.Parts.{partAt}
+use Rattle.wire.specs.Numbers.{be, bytesOf, numberAt, numberText}
+use Rattle.field.specs.Fields.{ruled, step}
+use Rattle.grammar.specs.Splits.{join}
+use Rattle.grammar.specs.Reading.{fieldsAt, blockAt, read}
+use Rattle.grammar.specs.Forms.{reading, byVersion}
+use Rattle.list.specs.Items.{itemsFrom, place}
+use Rattle.write_rules.specs.HelloTexts.{mayWrite, helloBytes, helloText}
+use Rattle.write_rules.specs.MessageTexts.{headText, messageText}
+use Rattle.read_certs.specs.Certs.{certificateRequest}
+use Rattle.read_others.specs.Body.{sessionTicket}
+use Rattle.open_hellos.specs.HelloMessages.{serverMessage}
+use Rattle.open_whole.specs.Whole.{wholeBody}
+use Rattle.envelope.specs.Opening.{headAt, byTypeIn, metAt, message}
+use Rattle.record_walk.specs.Walks.{pastAll}
+use Rattle.record_open.specs.Plaintext.{plainRecord, handshakes, openedFirst, plaintext}
+use Rattle.claim_rows.specs.Readings.{rows, ownRows, AllRead}
+
+all-read : AllRead rows
+unfolding rows messageText headText numberText helloText mayWrite helloBytes join bytesOf message metAt headAt byTypeIn plaintext openedFirst handshakes plainRecord itemsFrom place pastAll byVersion certificateRequest reading read fieldsAt blockAt step ruled numberAt be partAt refusal inside
+all-read = ((refl, refl), ((refl, refl), ((refl, refl), ((refl, refl), ((refl, refl), ((refl, refl), ((refl, refl), ((refl, refl), ((refl, refl), ((refl, refl), ((refl, refl), ((refl, refl), ((refl, refl), ((refl, refl), ((refl, refl), ((refl, refl), ((refl, refl), ((refl, refl), ((refl, refl), ((refl, refl), ((refl, refl), ((refl, refl), ((refl, refl), ((refl, refl), ((refl, refl), ((refl, refl), ((refl, refl), ((refl, refl), tt))))))))))))))))))))))))))))
+
+all-own : AllRead ownRows
+unfolding ownRows message metAt headAt byTypeIn serverMessage wholeBody sessionTicket certificateRequest plaintext openedFirst handshakes plainRecord itemsFrom pastAll byVersion reading read fieldsAt blockAt step ruled numberAt be bytesOf partAt refusal inside
+all-own = ((refl, refl), ((refl, refl), ((refl, refl), ((refl, refl), ((refl, refl), ((refl, refl), ((refl, refl), ((refl, refl), ((refl, refl), ((refl, refl), ((refl, refl), ((refl, refl), ((refl, refl), ((refl, refl), ((refl, refl), ((refl, refl), ((refl, refl), ((refl, refl), ((refl, refl), ((refl, refl), ((refl, refl), ((refl, refl), ((refl, refl), ((refl, refl), ((refl, refl), ((refl, refl), ((refl, refl), ((refl, refl), ((refl, refl), ((refl, refl), ((refl, refl), ((refl, refl), ((refl, refl), tt)))))))))))))))))))))))))))))))))
+
+pub each-row : AllRead rows × AllRead ownRows
+each-row = (all-read, all-own)

@@ -1,2 +1,0 @@
-pub mod Heard
-pub mod Again

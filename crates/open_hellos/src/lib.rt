@@ -1,0 +1,68 @@
+// The bodies of hellos and of what asks for one, opened as messages.
+ghost use mathlib.Core.Path.{_≡_};
+ghost use Rattle.read_others.specs.Body.{retry};
+ghost use Rattle.read_client.specs.Client.{client};
+ghost use Rattle.grammar.specs.Forms.{reading};
+ghost use Rattle.open_hellos.specs.HelloMessages.{serverMessage};
+ghost use Rattle.message.specs.Messages.{messageSays};
+ghost use Rattle.message.specs.declared.handshake.TlsMessageHandshake.the-variants.{ClientHello, HelloRequest, HelloRetryRequest};
+ghost use Rattle.refusal.specs.Answers.{accepted, giving};
+use read_others::retry::HelloRetryRequestAnswer;
+use read_client::ClientHelloAnswer;
+use message::handshake::MessageAnswer;
+use message::handshake::TlsMessageHandshake;
+use read_server::tlsv12::ServerHelloAnswer;
+use read_server::tlsv13draft18::Draft18Answer;
+use wire::number::NumberAnswer;
+use wire::number::Width;
+
+// Any body.
+pub fn parse_tls_handshake_msg_hello_request(i: &[u8]) -> MessageAnswer
+    ensures { λ r. ⌜ messageSays r ≡ accepted HelloRequest ⌝ }
+{
+    MessageAnswer::Got(TlsMessageHandshake::HelloRequest)
+}
+
+pub fn parse_tls_handshake_msg_client_hello(i: &[u8]) -> MessageAnswer
+    ensures { λ r. ⌜ messageSays r ≡ giving (λ c. ClientHello c) (reading client (now (i .entry))) ⌝ }
+{
+    match read_client::parse_tls_handshake_client_hello(i) {
+        ClientHelloAnswer::Refused(r) => MessageAnswer::Refused(r),
+        ClientHelloAnswer::Got(c) => MessageAnswer::Got(TlsMessageHandshake::ClientHello(c)),
+    }
+}
+
+// At 0x7f12 the draft 18 hello, which `parse_tls_handshake_server_hello` does not open.
+pub fn parse_tls_handshake_msg_server_hello(i: &[u8]) -> MessageAnswer
+    ensures { λ r. ⌜ messageSays r ≡ serverMessage (now (i .entry)) ⌝ }
+{
+    let version = match wire::number::parse_be(i, 0, Width::Two) {
+        NumberAnswer::Refused(r) => {
+            return MessageAnswer::Refused(r);
+        }
+        NumberAnswer::Got(n) => n,
+    };
+    if version.value == 0x7f12 {
+        return match read_server::tlsv13draft18::parse_tls_server_hello_tlsv13draft18(i) {
+            Draft18Answer::Refused(r) => MessageAnswer::Refused(r),
+            Draft18Answer::Got(c) => {
+                MessageAnswer::Got(TlsMessageHandshake::ServerHelloV13Draft18(c))
+            }
+        };
+    }
+    match read_server::tlsv12::parse_tls_handshake_server_hello(i) {
+        ServerHelloAnswer::Refused(r) => MessageAnswer::Refused(r),
+        ServerHelloAnswer::Got(c) => MessageAnswer::Got(TlsMessageHandshake::ServerHello(c)),
+    }
+}
+
+pub fn parse_tls_handshake_msg_hello_retry_request(i: &[u8]) -> MessageAnswer
+    ensures { λ r. ⌜ messageSays r ≡ giving (λ c. HelloRetryRequest c) (reading retry (now (i .entry))) ⌝ }
+{
+    match read_others::retry::parse_tls_hello_retry_request(i) {
+        HelloRetryRequestAnswer::Refused(r) => MessageAnswer::Refused(r),
+        HelloRetryRequestAnswer::Got(c) => {
+            MessageAnswer::Got(TlsMessageHandshake::HelloRetryRequest(c))
+        }
+    }
+}

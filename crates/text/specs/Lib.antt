@@ -1,4 +1,0 @@
-pub mod Hellos
-pub mod Messages
-pub use Hellos.{helloText}
-pub use Messages.{headText, messageText, viewText, sizedText}

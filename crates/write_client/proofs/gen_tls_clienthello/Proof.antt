@@ -1,0 +1,114 @@
+-- `write_client::gen_tls_clienthello` meets its contract: a part may not be written, or there is no room, or fields and head are put
+-- in. Assumes nothing.
+use Prim.Native.Nat.{_+_}
+use mathlib.Core.Bool.{true}
+use mathlib.Core.Path.{_≡_, sym, _∙_}
+use native.Mathlib.Omega.{arith}
+use borrow.Author.Tests.{not-false}
+use denote.Ref.{now}
+use Rattle.refusal.specs.Answers.{accepted}
+use Rattle.refusal.proofs.Told.{case}
+use Rattle.wire.specs.Parts.{partSays}
+use Rattle.wire.specs.Puts.{roomAt}
+use Rattle.wire.proofs.Parts.{room-fits}
+use Rattle.read_client.specs.Client.{client}
+use Rattle.write_rules.specs.HelloTexts.{mayWrite}
+use Rattle.write_rules.proofs.Hellos.{HelloMessage, hello-refused, hello-message}
+use Rattle.write_rules.proofs.Messages.{ensured, body-fits, message-out, message-in}
+use borrow.Author.Needs.{needs}
+use Rattle.write_client.proofs.gen_tls_clienthello.Statement.{statement}
+use Rattle.write_client.proofs.gen_tls_clienthello.Tie as tie
+
+writable-requires : tie.Need-writable-requires
+writable-requires c κs = search needs
+
+unplaced-requires : tie.Need-unplaced-requires
+unplaced-requires c κs = search needs
+
+returns : tie.Need-returns
+returns c = ensured (hello-refused client 0x01 _ _ _ (c .before .before .writable .ensures) (c .before .if1 .taken) (c .unplaced .ensures))
+
+-- the parts may be written
+may : (c : tie.Else1) → mayWrite client (now (c .before .before .before .before .args .i)) (c .before .before .before .before .args .m) ≡ true
+may c = sym (c .before .writable .ensures) ∙ not-false _ (c .if1 .left)
+
+fields-len-requires : tie.Need-fields-len-requires
+fields-len-requires c κs = may c
+
+-- so there is a message
+message : (c : tie.After-fields-len) → HelloMessage client 0x01 (now (c .before .before .before .before .before .args .i)) (c .before .before .before .before .before .args .m) (c .fields-len .result)
+message c = hello-message client 0x01 _ _ _ (may (c .before)) (c .fields-len .ensures .0) (omega (arith, c .fields-len .ensures .1))
+
+add-room-for : tie.Need-add-room-for
+add-room-for c = search needs
+
+room-for-requires : tie.Need-room-for-requires
+room-for-requires c κs = search needs
+
+enum-known-r : tie.Need-enum-known-r
+enum-known-r c = search needs
+
+enum-known-p : tie.Need-enum-known-p
+enum-known-p c = search needs
+
+-- there is room
+room : (c : tie.After-p) → roomAt (now (c .before .before .before .before .before .before .before .before .before .args .out)) 0 (4 + c .before .before .before .before .fields-len .result) ≡ accepted (c .p .given .0 .0)
+room c = case partSays (c .before .before .room-for .ensures) (c .p .given .1)
+
+sub-put-fields : tie.Need-sub-put-fields
+sub-put-fields c = omega (arith, room-fits _ _ _ (room (c .before)) .inside)
+
+part-put-fields-start : tie.Need-part-put-fields-start
+part-put-fields-start c = omega (arith, sub-put-fields c)
+
+part-put-fields-end : tie.Need-part-put-fields-end
+part-put-fields-end c = search needs
+
+put-fields-requires : tie.Need-put-fields-requires
+put-fields-requires c κs =
+    let p = c .before .before in
+    let k = p .before .before .before .before in
+    (may (k .before), body-fits _ (message k) (room p))
+
+gen-head-requires : tie.Need-gen-head-requires
+gen-head-requires c κs = search needs
+
+same-length : tie.Need-same-length
+same-length c = search needs
+
+returns-2 : tie.Need-returns-2
+returns-2 c =
+    let t = c .before .before .before in
+    ensured (message-out _ (message (t .before .before)) (case partSays (t .room-for .ensures) (c .before .r .given .1)))
+
+same-length-2 : tie.Need-same-length-2
+same-length-2 c = search needs
+
+returns-3 : tie.Need-returns-3
+returns-3 c =
+    let h = c .before .before in
+    let p = h .before .before .before .before in
+    let q = p .before .before .before in
+    ensured (message-in _ (message (q .before .before .before .before)) _ _ (room q) (p .put-fields .ensures) (h .gen-head .ensures .1))
+
+pub gen-tls-clienthello-spec : {M : Type 1} → statement M
+gen-tls-clienthello-spec =
+    tie.close
+    (tie.spec
+    writable-requires
+    unplaced-requires
+    returns
+    fields-len-requires
+    add-room-for
+    room-for-requires
+    enum-known-r
+    enum-known-p
+    sub-put-fields
+    part-put-fields-start
+    part-put-fields-end
+    put-fields-requires
+    gen-head-requires
+    same-length
+    returns-2
+    same-length-2
+    returns-3)
