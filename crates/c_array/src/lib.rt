@@ -18,7 +18,7 @@ fn put_numbers(out: &mut [usize], at: usize, src: &[usize])
     }
 }
 
-// The paper's number: 0, or NoRoom, which changes no number.
+// Puts `src` into `out` from `at` on: 0, or NoRoom's number, which changes nothing.
 pub fn gen_numbers(out: &mut [usize], at: usize, src: &[usize]) -> u8
     ensures { λ r. ⌜ r ≡ numberIn (room (Answer.accepted (now (src .entry))) at (now (out .entry))) ⌝ }
     ensures { λ _. ⌜ now (out .exit) ≡ written (Answer.accepted (now (src .entry))) at (now (out .entry)) ⌝ }

@@ -1,2 +1,2 @@
-pub mod Blocks
+pub mod Batches
 pub mod Numbers

@@ -1,4 +1,4 @@
--- A block of numbers of w bytes: what is still to be told after so many of them. Assumes nothing.
+-- A batch of numbers of w bytes: what is still to be told after so many of them. Assumes nothing.
 use Prim.Native.Nat.{ℕ, zero, suc, _+_, _-_, _*_, _/_, _<_, _≤_, min}
 use mathlib.Core.Path.{_≡_, refl, ap, _∙_}
 use mathlib.Core.List.{List, [], _∷_, map}
@@ -41,13 +41,17 @@ module _ (w : ℕ) (one : 1 ≤ w) (s : List ℕ) where
   value-at : (j : ℕ) → j < length (items (fixed w) s) → getD (values w s) j 0 ≡ be w s (j * w)
   value-at j h =
       let b = number-below w one s j h in
-      let t = then-accepted (place j (items (fixed w) s)) (λ p. accepted (record { value = be w s (p .view .start); next = p .next })) (b .1 ∙ number-got w s (j * w) (part-in Incomplete s (j * w) w (b .0))) in
+      let t = then-accepted (place j (items (fixed w) s))
+      (λ p. accepted (record { value = be w s (p .view .start); next = p .next }))
+      (b .1 ∙ number-got w s (j * w) (part-in Incomplete s (j * w) w (b .0))) in
       map-at (λ (p : Part). be w s (p .view .start)) j (items (fixed w) s) (t .1) ∙ ap valueOf (t .2)
 
   pub left-length : (room at : ℕ) → length (take room (drop at (values w s))) ≡ min room (length s / w - at)
   left-length room at = simp (length-take, length-drop, length-map, count-of w one s)
 
-  pub next-number : (room from k : ℕ) → k < room → from + k < length s / w → take (room - k) (drop (from + k) (values w s)) ≡ be w s ((from + k) * w) ∷ take (room - (k + 1)) (drop (from + (k + 1)) (values w s))
+  pub next-number : (room from k : ℕ) → k < room → from + k < length s / w
+      → take (room - k) (drop (from + k) (values w s)) ≡ be w s ((from + k) * w)
+      ∷ take (room - (k + 1)) (drop (from + (k + 1)) (values w s))
   next-number room from k h l =
       let r : room - k ≡ suc (room - (k + 1)) = omega arith in
       let n : from + (k + 1) ≡ suc (from + k) = omega arith in

@@ -1,4 +1,5 @@
-// Lists, as many items at a time as a lent array has room for: a caller in another language takes a block with each call.
+// Lists, as many items at a time as a lent array has room for: a caller in another language takes a
+// batch with each call.
 ghost use mathlib.Core.Path.{_≡_};
 ghost use lib.ListN.{length};
 ghost use Rattle.c_fill.specs.Batches.{itemBatch, messageBatch, numberBatch};
@@ -28,8 +29,8 @@ pub fn fill_numbers(s: &[u8], from: usize, out: &mut [u16]) -> usize
     n
 }
 
-// The items behind a length of that width, the first beginning at `from`: two numbers each, where it begins and how long it is. Answers how
-// many numbers were told.
+// The items behind a length of that width, the first beginning at `from`: two numbers each, where
+// it begins and how long it is. Answers how many numbers were told.
 pub fn fill_items(s: &[u8], w: Width, from: usize, out: &mut [usize]) -> usize
     ensures { λ r. ⌜ r ≡ length (itemBatch (length (now (out .entry))) (bytesIn w) (now (s .entry)) from) ⌝ }
     ensures { λ _. ⌜ now (out .exit) ≡ put (now (out .entry)) 0 (itemBatch (length (now (out .entry))) (bytesIn w) (now (s .entry)) from) ⌝ }
@@ -52,8 +53,8 @@ pub fn fill_items(s: &[u8], w: Width, from: usize, out: &mut [usize]) -> usize
     told
 }
 
-// The messages, the first beginning at `from`: three numbers each, its type, where its body begins and how long it is. Answers how many
-// numbers were told.
+// The messages, the first beginning at `from`: three numbers each, its type, where its body begins
+// and how long it is. Answers how many numbers were told.
 pub fn fill_messages(s: &[u8], from: usize, out: &mut [usize]) -> usize
     ensures { λ r. ⌜ r ≡ length (messageBatch (length (now (out .entry))) (now (s .entry)) from) ⌝ }
     ensures { λ _. ⌜ now (out .exit) ≡ put (now (out .entry)) 0 (messageBatch (length (now (out .entry))) (now (s .entry)) from) ⌝ }

@@ -2,16 +2,20 @@
 ghost use mathlib.Core.Path.{_≡_};
 ghost use Rattle.message.specs.Messages.{messageSays};
 ghost use lib.Dec.{eqb};
+ghost use Rattle.registry.specs.Types.{clientHelloType, serverHelloType, clientKeyExchangeType, finishedType};
+ghost use Rattle.registry.specs.Versions.{tls13Draft18};
 ghost use Rattle.c_hear.specs.Heard.{bad, heard, heardAs};
 ghost use Rattle.wire.specs.Parts.{pick};
 ghost use Rattle.wire.specs.declared.view.OptView.the-variants.{Absent, Present};
-use read_client::TlsClientHelloContents;
+use message::handshake;
 use message::handshake::MessageAnswer;
 use message::handshake::TlsMessageHandshake;
+use message::keyexchange;
 use message::keyexchange::TlsClientKeyExchangeContents;
-use refusal::Reason;
+use read_client::TlsClientHelloContents;
 use read_server::tlsv12::TlsServerHelloContents;
 use read_server::tlsv13draft18::TlsServerHelloV13Draft18Contents;
+use refusal::Reason;
 use wire::view::OptView;
 use wire::view::View;
 
@@ -31,7 +35,7 @@ fn opt_view(present: usize, start: usize, len: usize) -> OptView
 }
 
 fn hear_client(m: &[usize]) -> MessageAnswer
-    ensures { λ r. ⌜ messageSays r ≡ heardAs 1 (now (m .entry)) ⌝ }
+    ensures { λ r. ⌜ messageSays r ≡ heardAs clientHelloType (now (m .entry)) ⌝ }
 {
     if m.len() < 15 {
         return bad_numbers();
@@ -66,7 +70,7 @@ fn hear_client(m: &[usize]) -> MessageAnswer
 }
 
 fn hear_server(m: &[usize]) -> MessageAnswer
-    ensures { λ r. ⌜ messageSays r ≡ heardAs 2 (now (m .entry)) ⌝ }
+    ensures { λ r. ⌜ messageSays r ≡ heardAs serverHelloType (now (m .entry)) ⌝ }
 {
     if m.len() < 13 {
         return bad_numbers();
@@ -101,7 +105,7 @@ fn hear_server(m: &[usize]) -> MessageAnswer
 }
 
 fn hear_draft18(m: &[usize]) -> MessageAnswer
-    ensures { λ r. ⌜ messageSays r ≡ heardAs 0x7f12 (now (m .entry)) ⌝ }
+    ensures { λ r. ⌜ messageSays r ≡ heardAs tls13Draft18 (now (m .entry)) ⌝ }
 {
     if m.len() < 9 {
         return bad_numbers();
@@ -129,7 +133,7 @@ fn hear_draft18(m: &[usize]) -> MessageAnswer
 }
 
 fn hear_exchange(m: &[usize]) -> MessageAnswer
-    ensures { λ r. ⌜ messageSays r ≡ heardAs 16 (now (m .entry)) ⌝ }
+    ensures { λ r. ⌜ messageSays r ≡ heardAs clientKeyExchangeType (now (m .entry)) ⌝ }
 {
     if m.len() < 4 {
         return bad_numbers();
@@ -140,15 +144,15 @@ fn hear_exchange(m: &[usize]) -> MessageAnswer
         len: m[3],
     };
     match form {
-        0 => {
+        keyexchange::RAW => {
             let contents = TlsClientKeyExchangeContents::Unknown(view);
             MessageAnswer::Got(TlsMessageHandshake::ClientKeyExchange(contents))
         }
-        1 => {
+        keyexchange::DIFFIE_HELLMAN => {
             let contents = TlsClientKeyExchangeContents::Dh(view);
             MessageAnswer::Got(TlsMessageHandshake::ClientKeyExchange(contents))
         }
-        2 => {
+        keyexchange::ELLIPTIC_CURVE => {
             let contents = TlsClientKeyExchangeContents::Ecdh(view);
             MessageAnswer::Got(TlsMessageHandshake::ClientKeyExchange(contents))
         }
@@ -157,7 +161,7 @@ fn hear_exchange(m: &[usize]) -> MessageAnswer
 }
 
 fn hear_finished(m: &[usize]) -> MessageAnswer
-    ensures { λ r. ⌜ messageSays r ≡ heardAs 20 (now (m .entry)) ⌝ }
+    ensures { λ r. ⌜ messageSays r ≡ heardAs finishedType (now (m .entry)) ⌝ }
 {
     if m.len() < 3 {
         return bad_numbers();
@@ -169,21 +173,22 @@ fn hear_finished(m: &[usize]) -> MessageAnswer
     MessageAnswer::Got(TlsMessageHandshake::Finished(view))
 }
 
-// NotYetImplemented for a kind that is not written, then BadLength for numbers that are none of that kind.
+// Hears a message in the numbers `m`: NotYetImplemented for a kind that is not written, then
+// BadLength for numbers that are none of that kind.
 pub fn hear_message(m: &[usize]) -> MessageAnswer
     ensures { λ r. ⌜ messageSays r ≡ heard (now (m .entry)) ⌝ }
 {
     if m.len() == 0 {
         return bad_numbers();
     }
-    let kind = m[0];
-    match kind {
-        0 => MessageAnswer::Got(TlsMessageHandshake::HelloRequest),
-        1 => hear_client(m),
-        2 => hear_server(m),
-        16 => hear_exchange(m),
-        20 => hear_finished(m),
-        0x7f12 => hear_draft18(m),
+    let number = m[0];
+    match number {
+        handshake::HELLO_REQUEST => MessageAnswer::Got(TlsMessageHandshake::HelloRequest),
+        handshake::CLIENT_HELLO => hear_client(m),
+        handshake::SERVER_HELLO => hear_server(m),
+        handshake::CLIENT_KEY_EXCHANGE => hear_exchange(m),
+        handshake::FINISHED => hear_finished(m),
+        handshake::SERVER_HELLO_DRAFT18 => hear_draft18(m),
         _ => MessageAnswer::Refused(refusal::unplaced(Reason::NotYetImplemented)),
     }
 }

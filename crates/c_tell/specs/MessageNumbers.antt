@@ -1,8 +1,9 @@
--- A message as numbers: the number of its kind, then its contents in the order of their fields. A part is where it begins and how long it
--- is; a part that may be missing has a 1 before that, or is three times 0.
+-- A message as numbers: the number of its kind, then its contents in the order of their fields.
+-- RULES 1.7. A part is where it begins and how long it is; a part that may be missing has a 1
+-- before that, or is three times 0.
 use Rattle.refusal.specs.{ℕ, List, [], _∷_, _++_}
 use Rattle.wire.specs.{OptView, Absent, Present, View}
-use Rattle.message.specs.{TlsMessageHandshake, HelloRequest, ClientHello, ServerHello, ServerHelloV13Draft18, NewSessionTicket, EndOfEarlyData, HelloRetryRequest, Certificate, ServerKeyExchange, CertificateRequest, ServerDone, CertificateVerify, ClientKeyExchange, Finished, CertificateStatus, NextProtocol, KeyUpdate, TlsClientKeyExchangeContents, Dh, Ecdh, Unknown}
+use Rattle.message.specs.{rawExchange, dhExchange, ecdhExchange, kindNumber, TlsMessageHandshake, HelloRequest, ClientHello, ServerHello, ServerHelloV13Draft18, NewSessionTicket, EndOfEarlyData, HelloRetryRequest, Certificate, ServerKeyExchange, CertificateRequest, ServerDone, CertificateVerify, ClientKeyExchange, Finished, CertificateStatus, NextProtocol, KeyUpdate, TlsClientKeyExchangeContents, Dh, Ecdh, Unknown}
 
 abbrev pub partNumbers : View → List ℕ
 partNumbers v = v .start ∷ v .len ∷ []
@@ -13,29 +14,33 @@ optNumbers (Present v) = 1 ∷ partNumbers v
 
 -- read, a key exchange has the form 0
 abbrev pub exchangeNumbers : TlsClientKeyExchangeContents → List ℕ
-exchangeNumbers (Unknown v) = 0 ∷ partNumbers v
-exchangeNumbers (Dh v) = 1 ∷ partNumbers v
-exchangeNumbers (Ecdh v) = 2 ∷ partNumbers v
+exchangeNumbers (Unknown v) = rawExchange ∷ partNumbers v
+exchangeNumbers (Dh v) = dhExchange ∷ partNumbers v
+exchangeNumbers (Ecdh v) = ecdhExchange ∷ partNumbers v
 
--- the kinds have the numbers of their types (RFC 5246 7.4), and the draft 18 ServerHello that of its version
+-- what a kind holds, in the order of its fields
+abbrev pub contentNumbers : TlsMessageHandshake → List ℕ
+contentNumbers HelloRequest = []
+contentNumbers (ClientHello c) =
+    c .version ∷ (partNumbers (c .random) ++ (optNumbers (c .«session_id») ++ (partNumbers (c .ciphers) ++ (partNumbers (c .comp) ++ (optNumbers (c .ext) ++ (c .tail ∷ []))))))
+contentNumbers (ServerHello c) =
+    c .version ∷ (partNumbers (c .random) ++ (optNumbers (c .«session_id») ++ (c .cipher ∷ c .compression ∷ (optNumbers (c .ext) ++ (c .tail ∷ [])))))
+contentNumbers (ServerHelloV13Draft18 c) = c .version ∷ (partNumbers (c .random) ++ (c .cipher ∷ (optNumbers (c .ext) ++ (c .tail ∷ []))))
+contentNumbers (NewSessionTicket c) = c .«ticket_lifetime_hint» ∷ (partNumbers (c .ticket) ++ (c .tail ∷ []))
+contentNumbers EndOfEarlyData = []
+contentNumbers (HelloRetryRequest c) = c .version ∷ c .cipher ∷ (optNumbers (c .ext) ++ (c .tail ∷ []))
+contentNumbers (Certificate c) = partNumbers (c .«cert_chain») ++ (c .tail ∷ [])
+contentNumbers (ServerKeyExchange c) = partNumbers (c .parameters)
+contentNumbers (CertificateRequest c) =
+    partNumbers (c .«cert_types») ++ (optNumbers (c .«sig_hash_algs») ++ (partNumbers (c .«unparsed_ca») ++ (c .tail ∷ [])))
+contentNumbers (ServerDone v) = partNumbers v
+contentNumbers (CertificateVerify v) = partNumbers v
+contentNumbers (ClientKeyExchange k) = exchangeNumbers k
+contentNumbers (Finished v) = partNumbers v
+contentNumbers (CertificateStatus c) = c .«status_type» ∷ (partNumbers (c .blob) ++ (c .tail ∷ []))
+contentNumbers (NextProtocol c) = partNumbers (c .«selected_protocol») ++ (partNumbers (c .padding) ++ (c .tail ∷ []))
+contentNumbers (KeyUpdate n) = n ∷ []
+
+-- the number of its kind, and what it holds
 abbrev pub messageNumbers : TlsMessageHandshake → List ℕ
-messageNumbers HelloRequest = 0 ∷ []
-messageNumbers (ClientHello c) =
-    1 ∷ c .version ∷ (partNumbers (c .random) ++ (optNumbers (c .«session_id») ++ (partNumbers (c .ciphers) ++ (partNumbers (c .comp) ++ (optNumbers (c .ext) ++ (c .tail ∷ []))))))
-messageNumbers (ServerHello c) =
-    2 ∷ c .version ∷ (partNumbers (c .random) ++ (optNumbers (c .«session_id») ++ (c .cipher ∷ c .compression ∷ (optNumbers (c .ext) ++ (c .tail ∷ [])))))
-messageNumbers (ServerHelloV13Draft18 c) = 0x7f12 ∷ c .version ∷ (partNumbers (c .random) ++ (c .cipher ∷ (optNumbers (c .ext) ++ (c .tail ∷ []))))
-messageNumbers (NewSessionTicket c) = 4 ∷ c .«ticket_lifetime_hint» ∷ (partNumbers (c .ticket) ++ (c .tail ∷ []))
-messageNumbers EndOfEarlyData = 5 ∷ []
-messageNumbers (HelloRetryRequest c) = 6 ∷ c .version ∷ c .cipher ∷ (optNumbers (c .ext) ++ (c .tail ∷ []))
-messageNumbers (Certificate c) = 11 ∷ (partNumbers (c .«cert_chain») ++ (c .tail ∷ []))
-messageNumbers (ServerKeyExchange c) = 12 ∷ partNumbers (c .parameters)
-messageNumbers (CertificateRequest c) =
-    13 ∷ (partNumbers (c .«cert_types») ++ (optNumbers (c .«sig_hash_algs») ++ (partNumbers (c .«unparsed_ca») ++ (c .tail ∷ []))))
-messageNumbers (ServerDone v) = 14 ∷ partNumbers v
-messageNumbers (CertificateVerify v) = 15 ∷ partNumbers v
-messageNumbers (ClientKeyExchange k) = 16 ∷ exchangeNumbers k
-messageNumbers (Finished v) = 20 ∷ partNumbers v
-messageNumbers (CertificateStatus c) = 22 ∷ c .«status_type» ∷ (partNumbers (c .blob) ++ (c .tail ∷ []))
-messageNumbers (NextProtocol c) = 67 ∷ (partNumbers (c .«selected_protocol») ++ (partNumbers (c .padding) ++ (c .tail ∷ [])))
-messageNumbers (KeyUpdate n) = 24 ∷ n ∷ []
+messageNumbers m = kindNumber m ∷ contentNumbers m

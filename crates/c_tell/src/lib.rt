@@ -4,17 +4,20 @@ ghost use mathlib.Core.Path.{_≡_};
 ghost use Rattle.refusal.specs.Answers.{Answer, numberIn};
 ghost use Rattle.wire.specs.Puts.{room, written};
 ghost use Rattle.message.specs.declared.handshake.TlsMessageHandshake.the-variants.{Certificate, CertificateRequest, CertificateStatus, ClientHello, ClientKeyExchange, HelloRetryRequest, NewSessionTicket, NextProtocol, ServerHello, ServerHelloV13Draft18};
+ghost use Rattle.registry.specs.Types.{clientKeyExchangeType, keyUpdateType};
 ghost use Rattle.c_tell.specs.MessageNumbers.{messageNumbers, optNumbers, partNumbers};
 use c_array::gen_numbers;
-use read_others::next_protocol::TlsNextProtocolContent;
-use read_others::retry::TlsHelloRetryRequestContents;
-use read_others::ticket::TlsNewSessionTicketContent;
+use message::handshake;
+use message::handshake::TlsMessageHandshake;
+use message::keyexchange;
+use message::keyexchange::TlsClientKeyExchangeContents;
 use read_certs::certificate::TlsCertificateContents;
 use read_certs::request::TlsCertificateRequestContents;
 use read_certs::status::TlsCertificateStatusContents;
 use read_client::TlsClientHelloContents;
-use message::handshake::TlsMessageHandshake;
-use message::keyexchange::TlsClientKeyExchangeContents;
+use read_others::next_protocol::TlsNextProtocolContent;
+use read_others::retry::TlsHelloRetryRequestContents;
+use read_others::ticket::TlsNewSessionTicketContent;
 use read_server::tlsv12::TlsServerHelloContents;
 use read_server::tlsv13draft18::TlsServerHelloV13Draft18Contents;
 use wire::view::OptView;
@@ -53,7 +56,7 @@ fn tell_client_hello(c: TlsClientHelloContents, at: usize, out: &mut [usize]) ->
     let id = opt_numbers(id_view);
     let ext = opt_numbers(ext_view);
     let told = [
-        1,
+        handshake::CLIENT_HELLO,
         c.version as usize,
         c.random.start,
         c.random.len,
@@ -81,7 +84,7 @@ fn tell_server_hello(c: TlsServerHelloContents, at: usize, out: &mut [usize]) ->
     let id = opt_numbers(id_view);
     let ext = opt_numbers(ext_view);
     let told = [
-        2,
+        handshake::SERVER_HELLO,
         c.version as usize,
         c.random.start,
         c.random.len,
@@ -105,7 +108,7 @@ fn tell_draft18(c: TlsServerHelloV13Draft18Contents, at: usize, out: &mut [usize
     let ext_view = c.ext;
     let ext = opt_numbers(ext_view);
     let told = [
-        0x7f12,
+        handshake::SERVER_HELLO_DRAFT18,
         c.version as usize,
         c.random.start,
         c.random.len,
@@ -123,7 +126,7 @@ fn tell_ticket(c: TlsNewSessionTicketContent, at: usize, out: &mut [usize]) -> u
     ensures { λ _. ⌜ now (out .exit) ≡ written (Answer.accepted (messageNumbers (NewSessionTicket c))) at (now (out .entry)) ⌝ }
 {
     let told = [
-        4,
+        handshake::NEW_SESSION_TICKET,
         c.ticket_lifetime_hint as usize,
         c.ticket.start,
         c.ticket.len,
@@ -139,7 +142,7 @@ fn tell_retry(c: TlsHelloRetryRequestContents, at: usize, out: &mut [usize]) -> 
     let ext_view = c.ext;
     let ext = opt_numbers(ext_view);
     let told = [
-        6,
+        handshake::HELLO_RETRY_REQUEST,
         c.version as usize,
         c.cipher as usize,
         ext.present,
@@ -154,7 +157,12 @@ fn tell_certificate(c: TlsCertificateContents, at: usize, out: &mut [usize]) -> 
     ensures { λ r. ⌜ r ≡ numberIn (room (Answer.accepted (messageNumbers (Certificate c))) at (now (out .entry))) ⌝ }
     ensures { λ _. ⌜ now (out .exit) ≡ written (Answer.accepted (messageNumbers (Certificate c))) at (now (out .entry)) ⌝ }
 {
-    let told = [11, c.cert_chain.start, c.cert_chain.len, c.tail];
+    let told = [
+        handshake::CERTIFICATE,
+        c.cert_chain.start,
+        c.cert_chain.len,
+        c.tail,
+    ];
     gen_numbers(out, at, &told)
 }
 
@@ -165,7 +173,7 @@ fn tell_request(c: TlsCertificateRequestContents, at: usize, out: &mut [usize]) 
     let pairs_view = c.sig_hash_algs;
     let pairs = opt_numbers(pairs_view);
     let told = [
-        13,
+        handshake::CERTIFICATE_REQUEST,
         c.cert_types.start,
         c.cert_types.len,
         pairs.present,
@@ -182,7 +190,13 @@ fn tell_status(c: TlsCertificateStatusContents, at: usize, out: &mut [usize]) ->
     ensures { λ r. ⌜ r ≡ numberIn (room (Answer.accepted (messageNumbers (CertificateStatus c))) at (now (out .entry))) ⌝ }
     ensures { λ _. ⌜ now (out .exit) ≡ written (Answer.accepted (messageNumbers (CertificateStatus c))) at (now (out .entry)) ⌝ }
 {
-    let told = [22, c.status_type as usize, c.blob.start, c.blob.len, c.tail];
+    let told = [
+        handshake::CERTIFICATE_STATUS,
+        c.status_type as usize,
+        c.blob.start,
+        c.blob.len,
+        c.tail,
+    ];
     gen_numbers(out, at, &told)
 }
 
@@ -191,7 +205,7 @@ fn tell_next_protocol(c: TlsNextProtocolContent, at: usize, out: &mut [usize]) -
     ensures { λ _. ⌜ now (out .exit) ≡ written (Answer.accepted (messageNumbers (NextProtocol c))) at (now (out .entry)) ⌝ }
 {
     let told = [
-        67,
+        handshake::NEXT_PROTOCOL,
         c.selected_protocol.start,
         c.selected_protocol.len,
         c.padding.start,
@@ -212,10 +226,10 @@ fn tell_part(kind: usize, v: View, at: usize, out: &mut [usize]) -> u8
 
 // A key exchange, in one of the three forms.
 fn tell_form(form: usize, v: View, at: usize, out: &mut [usize]) -> u8
-    ensures { λ r. ⌜ r ≡ numberIn (room (Answer.accepted (16 ∷ form ∷ partNumbers v)) at (now (out .entry))) ⌝ }
-    ensures { λ _. ⌜ now (out .exit) ≡ written (Answer.accepted (16 ∷ form ∷ partNumbers v)) at (now (out .entry)) ⌝ }
+    ensures { λ r. ⌜ r ≡ numberIn (room (Answer.accepted (clientKeyExchangeType ∷ form ∷ partNumbers v)) at (now (out .entry))) ⌝ }
+    ensures { λ _. ⌜ now (out .exit) ≡ written (Answer.accepted (clientKeyExchangeType ∷ form ∷ partNumbers v)) at (now (out .entry)) ⌝ }
 {
-    let told = [16, form, v.start, v.len];
+    let told = [handshake::CLIENT_KEY_EXCHANGE, form, v.start, v.len];
     gen_numbers(out, at, &told)
 }
 
@@ -224,9 +238,9 @@ fn tell_exchange(k: TlsClientKeyExchangeContents, at: usize, out: &mut [usize]) 
     ensures { λ _. ⌜ now (out .exit) ≡ written (Answer.accepted (messageNumbers (ClientKeyExchange k))) at (now (out .entry)) ⌝ }
 {
     match k {
-        TlsClientKeyExchangeContents::Unknown(v) => tell_form(0, v, at, out),
-        TlsClientKeyExchangeContents::Dh(v) => tell_form(1, v, at, out),
-        TlsClientKeyExchangeContents::Ecdh(v) => tell_form(2, v, at, out),
+        TlsClientKeyExchangeContents::Unknown(v) => tell_form(keyexchange::RAW, v, at, out),
+        TlsClientKeyExchangeContents::Dh(v) => tell_form(keyexchange::DIFFIE_HELLMAN, v, at, out),
+        TlsClientKeyExchangeContents::Ecdh(v) => tell_form(keyexchange::ELLIPTIC_CURVE, v, at, out),
     }
 }
 
@@ -240,33 +254,43 @@ fn tell_kind(kind: usize, at: usize, out: &mut [usize]) -> u8
 }
 
 fn tell_key_update(n: u8, at: usize, out: &mut [usize]) -> u8
-    ensures { λ r. ⌜ r ≡ numberIn (room (Answer.accepted (24 ∷ n ∷ [])) at (now (out .entry))) ⌝ }
-    ensures { λ _. ⌜ now (out .exit) ≡ written (Answer.accepted (24 ∷ n ∷ [])) at (now (out .entry)) ⌝ }
+    ensures { λ r. ⌜ r ≡ numberIn (room (Answer.accepted (keyUpdateType ∷ n ∷ [])) at (now (out .entry))) ⌝ }
+    ensures { λ _. ⌜ now (out .exit) ≡ written (Answer.accepted (keyUpdateType ∷ n ∷ [])) at (now (out .entry)) ⌝ }
 {
-    let told = [24, n as usize];
+    let told = [handshake::KEY_UPDATE, n as usize];
     gen_numbers(out, at, &told)
 }
 
-// The paper's number: 0, or NoRoom, which changes no number.
+// Tells a message from `at` on: 0, or NoRoom's number, which changes nothing.
 pub fn tell_message(m: TlsMessageHandshake, at: usize, out: &mut [usize]) -> u8
     ensures { λ r. ⌜ r ≡ numberIn (room (Answer.accepted (messageNumbers m)) at (now (out .entry))) ⌝ }
     ensures { λ _. ⌜ now (out .exit) ≡ written (Answer.accepted (messageNumbers m)) at (now (out .entry)) ⌝ }
 {
     match m {
-        TlsMessageHandshake::HelloRequest => tell_kind(0, at, out),
+        TlsMessageHandshake::HelloRequest => tell_kind(handshake::HELLO_REQUEST, at, out),
         TlsMessageHandshake::ClientHello(c) => tell_client_hello(c, at, out),
         TlsMessageHandshake::ServerHello(c) => tell_server_hello(c, at, out),
         TlsMessageHandshake::ServerHelloV13Draft18(c) => tell_draft18(c, at, out),
         TlsMessageHandshake::NewSessionTicket(c) => tell_ticket(c, at, out),
-        TlsMessageHandshake::EndOfEarlyData => tell_kind(5, at, out),
+        TlsMessageHandshake::EndOfEarlyData => tell_kind(handshake::END_OF_EARLY_DATA, at, out),
         TlsMessageHandshake::HelloRetryRequest(c) => tell_retry(c, at, out),
         TlsMessageHandshake::Certificate(c) => tell_certificate(c, at, out),
-        TlsMessageHandshake::ServerKeyExchange(c) => tell_part(12, c.parameters, at, out),
+        TlsMessageHandshake::ServerKeyExchange(c) => tell_part(
+            handshake::SERVER_KEY_EXCHANGE,
+            c.parameters,
+            at,
+            out,
+        ),
         TlsMessageHandshake::CertificateRequest(c) => tell_request(c, at, out),
-        TlsMessageHandshake::ServerDone(v) => tell_part(14, v, at, out),
-        TlsMessageHandshake::CertificateVerify(v) => tell_part(15, v, at, out),
+        TlsMessageHandshake::ServerDone(v) => tell_part(handshake::SERVER_DONE, v, at, out),
+        TlsMessageHandshake::CertificateVerify(v) => tell_part(
+            handshake::CERTIFICATE_VERIFY,
+            v,
+            at,
+            out,
+        ),
         TlsMessageHandshake::ClientKeyExchange(k) => tell_exchange(k, at, out),
-        TlsMessageHandshake::Finished(v) => tell_part(20, v, at, out),
+        TlsMessageHandshake::Finished(v) => tell_part(handshake::FINISHED, v, at, out),
         TlsMessageHandshake::CertificateStatus(c) => tell_status(c, at, out),
         TlsMessageHandshake::NextProtocol(c) => tell_next_protocol(c, at, out),
         TlsMessageHandshake::KeyUpdate(n) => tell_key_update(n, at, out),

@@ -1,6 +1,8 @@
--- The lent list and the reader as parameters of a function that is walked by hand. Both are Copy, so what each owns is had twice: one copy
--- stays for the exit. The other copy of a reader's, opened, is what a function of a list and a place asks. What the reader owns does not
--- say its lifetime's name, so its machine value has the type at every name: in a local of a body MIR erases it. Assumes nothing.
+-- The lent list and the reader as parameters of a function that is walked by hand. Both are Copy,
+-- so what each owns is had twice: one copy stays for the exit. The other copy of a reader's,
+-- opened, is what a function of a list and a place asks. What the reader owns does not say its
+-- lifetime's name, so its machine value has the type at every name: in a local of a body MIR erases
+-- it. Assumes nothing.
 use mathlib.Core.Path.{_≡_, refl}
 use Prim.Native.Nat.{ℕ}
 use mathlib.Core.List.{List, [], _∷_}
@@ -60,7 +62,8 @@ fields κ d = (d .list, (d .at, tt))
 abbrev pub val : RefT (List ℕ) → Val
 val s = sliceVal (s .ptr) (length (s .now))
 
--- what is bound outside the contract of such a function: the lifetime, a share of its token, the values and their machine values
+-- what is bound outside the contract of such a function: the lifetime, a share of its token, the
+-- values and their machine values
 abbrev Bound : List (Slot 1) → Type 0
 Bound ss = ((κs : Lfts 1) × Shares 1 × Unit {0} × (a : Denots (typesAt ss κs)) × Valss (typesAt ss κs)) × Unit {0}
 
@@ -71,7 +74,8 @@ abbrev pub reader-bound : Lft → Share → TlsCertificateReader → Val → Bou
 reader-bound κ q r u = (((κ, tt), (q, tt), tt, (r, tt), (u ∷ [], tt)), tt)
 
 abbrev pub parts-bound : Lft → Share → TlsCertificateReader → Bound its-parts
-parts-bound κ q d = (((κ, tt), (q, tt), tt, (d .list, (d .at, tt)), (val (d .list) ∷ [], (vint w64 (d .at) ∷ [], tt))), tt)
+parts-bound κ q d =
+    (((κ, tt), (q, tt), tt, (d .list, (d .at, tt)), (val (d .list) ∷ [], (vint w64 (d .at) ∷ [], tt))), tt)
 
 -- what such parameters own
 abbrev pub Lent : Lft → RefT (List ℕ) → Fml
@@ -81,7 +85,8 @@ abbrev pub Whole : Lft → TlsCertificateReader → Fml
 Whole κ d = owns (B (κ, tt) ∷ []) (d, tt) (T′.lowered d ∷ [], tt)
 
 abbrev pub Parted : Lft → TlsCertificateReader → Fml
-Parted κ d = owns (ShrSlice (named 0) κ u8 ∷ usize ∷ []) (d .list, (d .at, tt)) (val (d .list) ∷ [], (vint w64 (d .at) ∷ [], tt))
+Parted κ d =
+    owns (ShrSlice (named 0) κ u8 ∷ usize ∷ []) (d .list, (d .at, tt)) (val (d .list) ∷ [], (vint w64 (d .at) ∷ [], tt))
 
 -- at exit a parameter is still owned, and what it owns tells its machine value
 abbrev pub list-stays : Stays a-list (yes, tt)
@@ -110,10 +115,13 @@ module _ {M : Type 1} (𝓤 : URA M) (H : Heap 𝓤) (A : Atoms 𝓤) (W : Given
   reader-goes = (goes-none 𝓤 H A W 1 B yes (λ κs x f. refl), tt)
 
   module _ (κ : Lft) where
-    pub list-twice : (s : RefT (List ℕ)) → ent 𝓤 (sem 𝓤 H A (Lent κ s)) (sep 𝓤 (sem 𝓤 H A (Lent κ s)) (sem 𝓤 H A (Lent κ s)))
+    pub list-twice : (s : RefT (List ℕ))
+        → ent 𝓤 (sem 𝓤 H A (Lent κ s)) (sep 𝓤 (sem 𝓤 H A (Lent κ s)) (sem 𝓤 H A (Lent κ s)))
     list-twice s =
         let Own = ShrSlice (named 0) κ u8 .own s (val s ∷ []) in
-        qed W (‵ (Lent κ s) ∷ []) ∵ fsplit ! $ use1 W (‵ Own ⊛ ‵ Own) (shr-slice-copy 𝓤 H A W (named 0) κ u8 .twice s (val s ∷ [])) $ split ! $ move ! (0 ∷ 2 ∷ []) $ fjoin ! $ frame ! $
+        qed W (‵ (Lent κ s) ∷ []) ∵ fsplit !
+        $ use1 W (‵ Own ⊛ ‵ Own) (shr-slice-copy 𝓤 H A W (named 0) κ u8 .twice s (val s ∷ [])) $ split !
+        $ move ! (0 ∷ 2 ∷ []) $ fjoin ! $ frame ! $
         nothing ! $ move ! (1 ∷ 0 ∷ []) $ fjoin ! $ done !
 
     module _ (d : TlsCertificateReader) where
@@ -121,14 +129,19 @@ module _ {M : Type 1} (𝓤 : URA M) (H : Heap 𝓤) (A : Atoms 𝓤) (W : Given
       Own = B (κ, tt) .own d (T′.lowered d ∷ [])
 
       pub reader-twice : ent 𝓤 (sem 𝓤 H A (Whole κ d)) (sep 𝓤 (sem 𝓤 H A (Whole κ d)) (sem 𝓤 H A Own))
-      reader-twice = qed W (‵ (Whole κ d) ∷ []) ∵ fsplit ! $ use1 W (‵ Own ⊛ ‵ Own) (LL.copy (D κ) (T′.the-copy (namedLft 1 0 tt (κ, tt))) 𝓤 H A W .twice d (T′.lowered d ∷ [])) $ split ! $ move ! (0 ∷ 2 ∷ []) $ fjoin ! $ frame ! $ done !
+      reader-twice = qed W (‵ (Whole κ d) ∷ []) ∵ fsplit !
+          $ use1 W (‵ Own ⊛ ‵ Own)
+          (LL.copy (D κ) (T′.the-copy (namedLft 1 0 tt (κ, tt))) 𝓤 H A W .twice d (T′.lowered d ∷ [])) $ split !
+          $ move ! (0 ∷ 2 ∷ []) $ fjoin ! $ frame ! $ done !
 
       pub apart : ent 𝓤 (sem 𝓤 H A (Whole κ d)) (sep 𝓤 (sem 𝓤 H A (Parted κ d)) (sem 𝓤 H A (Whole κ d)))
       apart =
           qed W (‵ (Whole κ d) ∷ []) ∵ use1 W (‵ (Whole κ d) ⊛ ‵ Own) reader-twice $ split ! $ move ! (1 ∷ []) $
-          use1 W (given (T′.lowered d ∷ [] ≡ T′.lowered d ∷ []) (‵ (Parted κ d))) (own-open 𝓤 H A W (D κ) (L κ) (fields κ d) (T′.lowered d)) $ learn ! (λ _. done !)
+          use1 W (given (T′.lowered d ∷ [] ≡ T′.lowered d ∷ []) (‵ (Parted κ d)))
+          (own-open 𝓤 H A W (D κ) (L κ) (fields κ d) (T′.lowered d)) $ learn ! (λ _. done !)
 
-    pub has-type : (n : Lifetime) (r : TlsCertificateReader) (u : Val) → Is (B (κ, tt)) r (u ∷ []) → Holds (hasTy (T′.mir n) u) × WT u
+    pub has-type : (n : Lifetime) (r : TlsCertificateReader) (u : Val) → Is (B (κ, tt)) r (u ∷ [])
+        → Holds (hasTy (T′.mir n) u) × WT u
     has-type n r u is =
         let α : NamedLft = record { mir = n; lft = κ } in
         LL.lawful (T.the-type α) (T′.the-laws α) 𝓤 H A W .typed r _ is .0

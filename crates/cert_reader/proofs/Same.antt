@@ -1,5 +1,6 @@
--- The reader hands out the items of the list, each at its place: it begins at the front, and from one item it moves to the place past
--- it, as every walk over a list does (`list/proofs/Fields.antt`). Assumes nothing.
+-- The reader hands out the items of the list, each at its place: it begins at the front, and from
+-- one item it moves to the place past it, as every walk over a list does
+-- (`list/proofs/Fields.antt`). Assumes nothing.
 use Prim.Native.Nat.{ℕ, zero, suc, _≤_}
 use mathlib.Core.Path.{_≡_, refl, sym, ap, _∙_}
 use mathlib.Core.List.{List}
@@ -27,14 +28,17 @@ module _ (s : List ℕ) where
   at-first = sym (begins (sized 3) some-bytes s)
 
   -- where one certificate stands at the place k, the next one stands past it
-  at-next : (k at : ℕ) → itemFrom (sized 3) s at ≡ place k (items (sized 3) s) → itemFrom (sized 3) s (pastOr at (itemFrom (sized 3) s at)) ≡ place (suc k) (items (sized 3) s)
+  at-next : (k at : ℕ) → itemFrom (sized 3) s at ≡ place k (items (sized 3) s)
+      → itemFrom (sized 3) s (pastOr at (itemFrom (sized 3) s at)) ≡ place (suc k) (items (sized 3) s)
   at-next k at e = go (itemFrom (sized 3) s at) refl
     where
-      go : (a : Answer Part) → itemFrom (sized 3) s at ≡ a → itemFrom (sized 3) s (pastOr at (itemFrom (sized 3) s at)) ≡ place (suc k) (items (sized 3) s)
+      go : (a : Answer Part) → itemFrom (sized 3) s at ≡ a
+          → itemFrom (sized 3) s (pastOr at (itemFrom (sized 3) s at)) ≡ place (suc k) (items (sized 3) s)
       go (accepted p) y = rw y (sym (goes-on (sized 3) some-bytes s k p (sym e ∙ y)))
       go (refused r) y =
           let n = item-none (sized 3) s at y in
-          ap (λ (a : Answer Part). itemFrom (sized 3) s (pastOr at a)) y ∙ y ∙ ap refused (n .2) ∙ sym (none-after k (items (sized 3) s) (sym e ∙ y))
+          ap (λ (a : Answer Part). itemFrom (sized 3) s (pastOr at a)) y ∙ y ∙ ap refused (n .2)
+          ∙ sym (none-after k (items (sized 3) s) (sym e ∙ y))
 
 module _ (l : RefT (List ℕ)) where
   keeps : (k : ℕ) → readerAfter k l .list ≡ l

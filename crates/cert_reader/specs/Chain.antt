@@ -1,5 +1,6 @@
--- Document 01: "certificate lists also get a reader that holds the lent list and its place". What it hands out, where it moves, and what
--- is shown of every list by `proofs/Same.antt`: it hands out the items of the list (`list/specs/Items.antt`).
+-- The reader that holds the lent list of certificates and its place: what it hands out, and where
+-- it moves. RULES 10.6; RFC 5246 7.4.2. Of every list `proofs/Same.antt` shows that it hands out
+-- the items of the list (`list/specs/Items.antt`).
 use Rattle.refusal.specs.{ℕ, zero, suc, _≡_, List, RefT, now, refusal, Answer, accepted, refused, NoSuch, Refusal}
 use Rattle.wire.specs.{Part}
 use Rattle.field.specs.{sized}

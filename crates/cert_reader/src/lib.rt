@@ -1,5 +1,6 @@
-// The certificates of a chain one after the other, by a reader that holds the lent list and its place. The prover covers no function over
-// such a struct: each is thin, proved by hand, and leaves the work to a function of plain parameters.
+// RULES 10.6: the certificates of a chain one after the other, by a reader with the lent list and
+// its place in it. The prover covers no function over such a struct: each is thin, proved by hand,
+// and leaves the work to a function of plain parameters.
 ghost use mathlib.Core.Path.{_≡_};
 ghost use Rattle.cert_reader.specs.Chain.{atFront, certOf, movedOn, pastOr};
 ghost use Rattle.field.specs.Fields.{sized};
@@ -32,7 +33,7 @@ fn past_cert(list: &[u8], at: usize) -> usize
 }
 
 impl<'a> TlsCertificateReader<'a> {
-    // Before the first certificate.
+    // Makes a reader that stands before the first certificate.
     pub fn new(list: &'a [u8]) -> TlsCertificateReader<'a>
         ensures { λ r. ⌜ r ≡ atFront (list .entry) ⌝ }
     {

@@ -1,12 +1,13 @@
-// Runs the compiled wire layer and the writers at their edges: what it prints is held to the file stdout.
+// Runs the compiled wire layer and the writers at their edges: what it prints is held to the file
+// stdout.
 mod writers;
 
 use libc::STDOUT_FILENO;
-use norrabist::RuleName;
 use norrabist::NumberAnswer;
 use norrabist::OptView;
 use norrabist::PartAnswer;
 use norrabist::Refusal;
+use norrabist::RuleName;
 use norrabist::View;
 use norrabist::Width;
 use norrabist::WriteAnswer;

@@ -1,5 +1,5 @@
-// The writers at the edges of what may be written: for each call the lengths of its parts, the room, the answer, and how many bytes of an
-// output of 0xaa are others then.
+// The writers at the edges of what may be written: for each call the lengths of its parts, the
+// room, the answer, and how many bytes of an output of 0xaa are others then.
 use crate::say;
 use crate::say_number;
 use norrabist::OptView;
@@ -11,7 +11,8 @@ use norrabist::TlsServerHelloV13Draft18Contents;
 use norrabist::View;
 use norrabist::WriteAnswer;
 
-// More than the longest hello: the length of every output, which is lent as 0xaa, and of the source of every part.
+// More than the longest hello: the length of every output, which is lent as 0xaa, and of the source
+// of every part.
 const MOST: usize = 131_500;
 
 // How many bytes are not 0xaa.

@@ -174,7 +174,8 @@ fn made_up(text: &[u8], s: &[u8], random: View) {
     say_accessors(s, hello);
 }
 
-// gmt_unix_time is the first four bytes of the random; rand_time is another number than 0 only where there are no more.
+// gmt_unix_time is the first four bytes of the random; rand_time is another number than 0 only
+// where there are no more.
 pub(crate) fn accessors() {
     let mut s = [0u8; 80];
     s[0] = 0x03;

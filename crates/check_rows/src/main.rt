@@ -1,5 +1,5 @@
-// Runs the rows of document 01, "Readings to keep on the bench" (1 to 18), and beside them inputs of its text and the accessors,
-// marked -: one line for each input, held to the file stdout.
+// Runs the rows of RULES 8 (1 to 18), and beside them further inputs and the accessors, marked -:
+// one line for each input, held to the file stdout.
 mod cert_rows;
 mod hello_rows;
 mod record_rows;

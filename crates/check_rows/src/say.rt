@@ -43,11 +43,12 @@ pub(crate) fn opt(name: &[u8], v: OptView) {
     }
 }
 
-// How every line begins: the row's number, what the input is read as, the input in the paper's notation.
-pub(crate) fn row(number: &[u8], kind: &[u8], input: &[u8]) {
+// How every line begins: the row's number, what the input is read as, the input in RULES 8's
+// notation.
+pub(crate) fn row(number: &[u8], what: &[u8], input: &[u8]) {
     text(number);
     text(b" ");
-    text(kind);
+    text(what);
     text(b" ");
     text(input);
     text(b": ");

@@ -1,4 +1,5 @@
-// Row 15, a hello written back; and beside it the order of a writer's refusals. The whole output is shown: it was lent as aa.
+// Row 15, a hello written back; and beside it the order of a writer's refusals. The whole output is
+// shown: it was lent as aa.
 use crate::cert_rows;
 use crate::say;
 use norrabist::ClientHelloAnswer;

@@ -1,4 +1,5 @@
--- The number of an answer, check by check: what a part, a number, a field and fields in a row come to. Assumes nothing.
+-- The number of an answer, check by check: what a part, a number, a field and fields in a row come
+-- to. Assumes nothing.
 use Prim.Native.Nat.{ℕ, _+_, _%_, _<_, _≤_}
 use mathlib.Core.Path.{_≡_, refl, ap, sym, _∙_}
 use mathlib.Core.List.{List, [], _∷_}
@@ -38,7 +39,8 @@ pub number-within : {A : Type 0} (at : ℕ) (x : Answer A) → numberIn (within 
 number-within at (accepted a) = refl
 number-within at (refused r) = ap numberOf (inside-reason at r)
 
-pub then-assoc : {A B C : Type 0} (x : Answer A) (f : A → Answer B) (k : B → Answer C) → then (then x f) k ≡ then x (λ a. then (f a) k)
+pub then-assoc : {A B C : Type 0} (x : Answer A) (f : A → Answer B) (k : B → Answer C)
+    → then (then x f) k ≡ then x (λ a. then (f a) k)
 then-assoc (accepted a) f k = refl
 then-assoc (refused r) f k = refl
 
@@ -73,32 +75,38 @@ part-then past s at n k = go (leb (at + n) (length s)) refl
         rw (part-out past s at n h, lt-ltb (length s) (at + n) h) (ap numberOf (its-reason past at _))
 
 pub number-then : {B : Type 0} (w : ℕ) (s : List ℕ) (at : ℕ) (k : Number → Answer B)
-    → numberIn (then (numberAt w s at) k) ≡ inOrder (under s (at + w) Incomplete ∷ []) (numberIn (k (record { value = be w s at; next = at + w })))
+    → numberIn (then (numberAt w s at) k) ≡ inOrder (under s (at + w) Incomplete ∷ [])
+    (numberIn (k (record { value = be w s at; next = at + w })))
 unfolding numberAt inOrder
-number-then w s at k = rw then-assoc (part-then Incomplete s at w (λ p. k (record { value = be w s at; next = p .next })))
+number-then w s at k =
+    rw then-assoc (part-then Incomplete s at w (λ p. k (record { value = be w s at; next = p .next })))
 
 pub fixed-then : {B : Type 0} (n : ℕ) (s : List ℕ) (at : ℕ) (k : Part → Answer B)
     → numberIn (then (step (fixed n) s at) k) ≡ inOrder (under s (at + n) Incomplete ∷ []) (numberIn (k (found at n)))
 unfolding step
 fixed-then n s at k = part-then Incomplete s at n k
 
--- the number by the rule of a length n that stands at a place, its bytes behind it, and what follows
+-- the number by the rule of a length n that stands at a place, its bytes behind it, and what
+-- follows
 abbrev byRule : Rule → ℕ → ℕ → ℕ → ℕ → ℕ
 byRule r at behind n x = ifSome (r .broken n) (λ made. numberOf (made at behind .reason)) x
 
 -- of a rule that has a test
-pub by-test : (t : Bool) (made : ℕ → ℕ → Refusal) (at behind : ℕ) {why : Reason} → made at behind .reason ≡ why → (x : ℕ)
+pub by-test : (t : Bool) (made : ℕ → ℕ → Refusal) (at behind : ℕ) {why : Reason} → made at behind .reason ≡ why
+    → (x : ℕ)
     → ifSome (unless t made) (λ r. numberOf (r at behind .reason)) x ≡ pick (not t) (numberOf why) x
 by-test true made at behind e x = refl
 by-test false made at behind e x = ap numberOf e
 
 ruled-then : {B : Type 0} (r : Rule) (s : List ℕ) (at behind n : ℕ) (k : Part → Answer B)
-    → numberIn (then (ruled r s at behind n) k) ≡ byRule r at behind n (inOrder (under s (behind + n) (r .past) ∷ []) (numberIn (k (found behind n))))
+    → numberIn (then (ruled r s at behind n) k) ≡ byRule r at behind n
+    (inOrder (under s (behind + n) (r .past) ∷ []) (numberIn (k (found behind n))))
 unfolding inOrder
 ruled-then r s at behind n k = go (r .broken n) refl
   where
     go : (o : Option (ℕ → ℕ → Refusal)) → r .broken n ≡ o
-        → numberIn (then (ruled r s at behind n) k) ≡ byRule r at behind n (inOrder (under s (behind + n) (r .past) ∷ []) (numberIn (k (found behind n))))
+        → numberIn (then (ruled r s at behind n) k) ≡ byRule r at behind n
+        (inOrder (under s (behind + n) (r .past) ∷ []) (numberIn (k (found behind n))))
     go none q = rw (ruled-in r s at behind n q, q) (part-then (r .past) s behind n k)
     go (some made) q = rw (ruled-out r s at behind n made q, q)
 
@@ -107,7 +115,8 @@ abbrev vectorNumber : ℕ → Rule → List ℕ → ℕ → ℕ → ℕ
 vectorNumber w r s at x = inOrder (under s (at + w) Incomplete ∷ []) (byRule r at (at + w) (be w s at) x)
 
 pub vector-then : {B : Type 0} (w : ℕ) (r : Rule) (s : List ℕ) (at : ℕ) (k : Part → Answer B)
-    → numberIn (then (step (vector w r) s at) k) ≡ vectorNumber w r s at (inOrder (under s (at + w + be w s at) (r .past) ∷ []) (numberIn (k (found (at + w) (be w s at)))))
+    → numberIn (then (step (vector w r) s at) k) ≡ vectorNumber w r s at
+    (inOrder (under s (at + w + be w s at) (r .past) ∷ []) (numberIn (k (found (at + w) (be w s at)))))
 unfolding step inOrder
 vector-then w r s at k = rw (then-assoc, number-then, ruled-then)
 
@@ -122,7 +131,8 @@ rowsNumber [] s at x = x
 rowsNumber ((fixed n, m) ∷ rs) s at x = asked Incomplete s (at + n) rs (rowsNumber rs s (at + n) x)
 rowsNumber ((vector w r, m) ∷ rs) s at x =
     let past = at + w + be w s at in
-    pick (ltb (length s) (at + w)) 1 (byRule r at (at + w) (be w s at) (asked (r .past) s past rs (rowsNumber rs s past x)))
+    pick (ltb (length s) (at + w)) 1
+    (byRule r at (at + w) (be w s at) (asked (r .past) s past rs (rowsNumber rs s past x)))
 
 abbrev one-more : (w : Row) (rs : List Row) → View → Views rs × ℕ → Views (w ∷ rs) × ℕ
 one-more w rs v q = ((v, q .0), q .1)
@@ -130,10 +140,12 @@ one-more w rs v q = ((v, q .0), q .1)
 abbrev pub viewsAt : (rs : List Row) → List ℕ → ℕ → Views rs × ℕ
 viewsAt [] s at = (tt, at)
 viewsAt ((fixed n, m) ∷ rs) s at = one-more (fixed n, m) rs (found at n .view) (viewsAt rs s (at + n))
-viewsAt ((vector w r, m) ∷ rs) s at = one-more (vector w r, m) rs (found (at + w) (be w s at) .view) (viewsAt rs s (at + w + be w s at))
+viewsAt ((vector w r, m) ∷ rs) s at =
+    one-more (vector w r, m) rs (found (at + w) (be w s at) .view) (viewsAt rs s (at + w + be w s at))
 
 -- past the end the first row is lacking
-past-end : (rs : List Row) (f : Field) (m : How) (s : List ℕ) (n x : ℕ) → length s < n → rowsNumber ((f, m) ∷ rs) s n x ≡ 1
+past-end : (rs : List Row) (f : Field) (m : How) (s : List ℕ) (n x : ℕ) → length s < n
+    → rowsNumber ((f, m) ∷ rs) s n x ≡ 1
 past-end [] (fixed k) m s n x h = rw (lt-ltb (length s) (n + k) (omega arith))
 past-end [] (vector w r) m s n x h = rw (lt-ltb (length s) (n + w) (omega arith))
 past-end ((g, o) ∷ rs) (fixed k) m s n x h = past-end rs g o s (n + k) x (omega arith)
@@ -145,7 +157,8 @@ asked-same why s n [] x = refl
 asked-same why s n ((f, m) ∷ rs) x = go (eqb (numberOf why) 1) (ltb (length s) n) refl refl
   where
     go : (t u : Bool) → eqb (numberOf why) 1 ≡ t → ltb (length s) n ≡ u
-        → pick (ltb (length s) n) (numberOf why) (rowsNumber ((f, m) ∷ rs) s n x) ≡ asked why s n ((f, m) ∷ rs) (rowsNumber ((f, m) ∷ rs) s n x)
+        → pick (ltb (length s) n) (numberOf why) (rowsNumber ((f, m) ∷ rs) s n x) ≡ asked why s n ((f, m) ∷ rs)
+        (rowsNumber ((f, m) ∷ rs) s n x)
     go false u q p = rw q
     go true false q p = rw (q, p)
     go true true q p = rw (q, p, past-end rs f m s n x (ltb-true _ _ p)) (eqb-true _ _ q)
@@ -161,7 +174,13 @@ rows-then ((fixed n, m) ∷ rs) s at k =
 rows-then ((vector w r, m) ∷ rs) s at k =
     let v = be w s at in
     let o = one-more (vector w r, m) rs (found (at + w) v .view) in
-    rw (then-assoc, vector-then, then-assoc, rows-then rs s (at + w + v) (λ q. k (o q)), asked-same (r .past) s (at + w + v) rs _)
+    rw (
+      then-assoc,
+      vector-then,
+      then-assoc,
+      rows-then rs s (at + w + v) (λ q. k (o q)),
+      asked-same (r .past) s (at + w + v) rs _,
+    )
 
 -- what a form makes of its rows where no check holds
 abbrev pub valueAt : {C : Type 0} (k : Form C) → List ℕ → C
@@ -174,7 +193,8 @@ pub form-then : {C B : Type 0} (k : Form C) (s : List ℕ) (c : C → Answer B)
     → numberIn (then (reading k s) c) ≡ rowsNumber (k .grammar .rows) s 0 (numberIn (c (valueAt k s)))
 form-then k s c =
     rw (begin-on k s, then-assoc)
-    (rows-then (k .grammar .rows) s 0 (λ q. c (valueOf k s (withLast (k .grammar) (q .0) (lastAt (k .grammar .block) s (q .1))))))
+    (rows-then (k .grammar .rows) s 0
+    (λ q. c (valueOf k s (withLast (k .grammar) (q .0) (lastAt (k .grammar .block) s (q .1))))))
 
 pub form-number : {C : Type 0} (k : Form C) (s : List ℕ) → numberIn (reading k s) ≡ rowsNumber (k .grammar .rows) s 0 0
 form-number {C} k s = sym (number-on (reading k s) (λ (c : C). c)) ∙ form-then k s (λ c. accepted c)
@@ -226,10 +246,12 @@ fewer-first l a b x y h = go (ltb l a) refl
 
 -- a part that is there is the bytes from its place on
 pub part-taken : (s : List ℕ) (a n x : ℕ) (f : List ℕ → ℕ)
-    → pick (ltb (length s) (a + n)) x (f (partOf s (record { start = a; len = n }))) ≡ pick (ltb (length s) (a + n)) x (f (take n (drop a s)))
+    → pick (ltb (length s) (a + n)) x (f (partOf s (record { start = a; len = n }))) ≡ pick (ltb (length s) (a + n)) x
+    (f (take n (drop a s)))
 part-taken s a n x f = go (ltb (length s) (a + n)) refl
   where
     go : (t : Bool) → ltb (length s) (a + n) ≡ t
-        → pick (ltb (length s) (a + n)) x (f (partOf s (record { start = a; len = n }))) ≡ pick (ltb (length s) (a + n)) x (f (take n (drop a s)))
+        → pick (ltb (length s) (a + n)) x (f (partOf s (record { start = a; len = n }))) ≡ pick
+        (ltb (length s) (a + n)) x (f (take n (drop a s)))
     go true q = rw q
     go false q = rw (q, le-leb (a + n) (length s) (ltb-false _ _ q))

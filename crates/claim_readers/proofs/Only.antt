@@ -1,4 +1,5 @@
--- A case gives no refusal but these: shown of the checks that it makes, by looking each of their refusals up. Assumes nothing.
+-- A case gives no refusal but these: shown of the checks that it makes, by looking each of their
+-- refusals up. Assumes nothing.
 use Prim.Native.Nat.{ℕ, _+_}
 use mathlib.Core.Path.{_≡_, refl}
 use mathlib.Core.Logic.{inl, inr}
@@ -10,13 +11,18 @@ use lib.ListN.{take, drop}
 use Rattle.refusal.specs.Answers.{Answer, accepted, refused, numberIn}
 use Rattle.refusal.specs.Refusals.{numberOf, OneOf}
 use Rattle.refusal.specs.declared.Reason.{Reason}
-use Rattle.refusal.specs.declared.Reason.the-variants.{Incomplete, Complete, Verify, Tag, Switch, TooLarge, Elsewhere, NoSuch}
+use Rattle.refusal.specs.declared.Reason.the-variants.{Incomplete, Complete, Verify, Tag, Switch, TooLarge, Elsewhere}
+use Rattle.refusal.specs.declared.Reason.the-variants.{NoSuch}
 use Rattle.refusal.proofs.Told.{its-reason}
 use Rattle.wire.specs.Parts.{pick}
 use Rattle.wire.specs.Numbers.{be}
 use Rattle.field.proofs.Texts.{both-true}
 use Rattle.list.specs.Items.{orNoSuch}
-use Rattle.claim_readers.specs.Readers.{All, _&_, end, Check, ofMessage, inOrder, beside, clientCase, serverCase, byVersionCase, draft18Case, serverMessageCase, retryCase, ticketCase, certificateCase, requestCase, statusCase, nextProtocolCase, keyUpdateCase, wholeCase, openedCase, bodyCase, metCase, recordTypeCase, plaintextCase, placeCase, walkCase}
+use Rattle.claim_readers.specs.Readers.{All, _&_, end, Check, ofMessage, inOrder, beside, clientCase, serverCase}
+use Rattle.claim_readers.specs.Readers.{byVersionCase, draft18Case, serverMessageCase, retryCase, ticketCase}
+use Rattle.claim_readers.specs.Readers.{certificateCase, requestCase, statusCase, nextProtocolCase}
+use Rattle.claim_readers.specs.Readers.{keyUpdateCase, wholeCase, openedCase, bodyCase, metCase, recordTypeCase}
+use Rattle.claim_readers.specs.Readers.{plaintextCase, placeCase, walkCase}
 
 -- the number is 0 or that of one of these, with the list in sight
 pub record Only (whys : List Reason) (n : ℕ) : Type 0 where
@@ -56,7 +62,8 @@ hasAll whys [] = true
 hasAll whys ((t, why) ∷ checks) = has whys (numberOf why) && hasAll whys checks
 
 -- checks and what is left to say
-pub only-order : {whys : List Reason} {k : ℕ} (checks : List Check) → hasAll whys checks ≡ true → Only whys k → Only whys (inOrder checks k)
+pub only-order : {whys : List Reason} {k : ℕ} (checks : List Check) → hasAll whys checks ≡ true → Only whys k
+    → Only whys (inOrder checks k)
 unfolding inOrder
 only-order [] h o = o
 only-order {whys} ((t, why) ∷ checks) h o =
@@ -67,7 +74,8 @@ pub checks-only : {whys : List Reason} (checks : List Check) → hasAll whys che
 checks-only checks h = only-order checks h none-refused
 
 -- what stands beside a number
-beside-only : {whys : List Reason} {other : ℕ} (k : ℕ) (table : List (ℕ × ℕ)) → All (λ (x : ℕ × ℕ). Only whys (x .1)) table → Only whys other
+beside-only : {whys : List Reason} {other : ℕ} (k : ℕ) (table : List (ℕ × ℕ))
+    → All (λ (x : ℕ × ℕ). Only whys (x .1)) table → Only whys other
     → Only whys (beside k table other)
 unfolding beside
 beside-only k [] end o = o
@@ -75,7 +83,8 @@ beside-only k (x ∷ rest) (p & ps) o = either-way (eqb k (x .0)) p (beside-only
 
 pub server-message-only : (s : List ℕ) → Only (Incomplete ∷ Verify ∷ Tag ∷ []) (serverMessageCase s)
 unfolding serverMessageCase draft18Case byVersionCase serverCase
-server-message-only s = only-order _ refl (either-way (eqb (be 2 s 0) 0x7f12) (checks-only _ refl) (only-order _ refl (checks-only _ refl)))
+server-message-only s =
+    only-order _ refl (either-way (eqb (be 2 s 0) 0x7f12) (checks-only _ refl) (only-order _ refl (checks-only _ refl)))
 
 pub opened-only : (n k : ℕ) (s : List ℕ) → Only ofMessage (openedCase k n s)
 unfolding openedCase clientCase serverMessageCase draft18Case byVersionCase serverCase ticketCase retryCase certificateCase wholeCase requestCase statusCase nextProtocolCase keyUpdateCase
@@ -84,19 +93,11 @@ opened-only n k s =
     (none-refused
     & none-refused
     & checks-only _ refl
-    & only-order _ refl (either-way (eqb (be 2 s 0) 0x7f12) (checks-only _ refl) (only-order _ refl (checks-only _ refl)))
-    & checks-only _ refl
-    & checks-only _ refl
-    & checks-only _ refl
-    & checks-only _ refl
-    & checks-only _ refl
-    & checks-only _ refl
-    & checks-only _ refl
-    & checks-only _ refl
-    & checks-only _ refl
-    & checks-only _ refl
-    & checks-only _ refl
-    & checks-only _ refl
+    & only-order _ refl (either-way (eqb (be 2 s 0) 0x7f12) (checks-only _ refl)
+    (only-order _ refl (checks-only _ refl)))
+    & checks-only _ refl & checks-only _ refl & checks-only _ refl & checks-only _ refl
+    & checks-only _ refl & checks-only _ refl & checks-only _ refl & checks-only _ refl
+    & checks-only _ refl & checks-only _ refl & checks-only _ refl & checks-only _ refl
     & end)
     (has-only ofMessage (numberOf Switch) refl)
 
@@ -109,7 +110,8 @@ unfolding plaintextCase recordTypeCase
 plaintext-only s =
     let content = take (be 2 s 3) (drop 5 s) in
     only-order _ refl (only-order _ refl
-    (either-way (eqb (metCase 0 content) 1) (has-only _ (numberOf Complete) refl) (record { given = inr (inr (met-only 0 content .given)) })))
+    (either-way (eqb (metCase 0 content) 1) (has-only _ (numberOf Complete) refl)
+    (record { given = inr (inr (met-only 0 content .given)) })))
 
 pub place-only : (k count : ℕ) → Only (NoSuch ∷ []) (placeCase k count)
 unfolding placeCase

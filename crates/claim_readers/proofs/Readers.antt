@@ -1,4 +1,5 @@
--- The readers' numbers are the cases of `specs/Readers.antt`: a law for each row of its table. Assumes nothing.
+-- The readers' numbers are the cases of `specs/Readers.antt`: a law for each row of its table.
+-- Assumes nothing.
 use Prim.Native.Nat.{ℕ, zero, suc, _+_, _%_, _/_, _≤_, _<_}
 use native.Mathlib.Nat.{zero-add, add-zero}
 use mathlib.Core.Path.{_≡_, refl, ap, sym, _∙_}
@@ -11,7 +12,8 @@ use lib.ListN.{length, drop}
 use lib.Dec.{leb, ltb, eqb}
 use Rattle.refusal.specs.Answers.{Answer, accepted, refused, then, giving, within, numberIn}
 use Rattle.refusal.specs.Refusals.{numberOf, refusal, unplaced}
-use Rattle.refusal.specs.declared.Reason.the-variants.{Incomplete, Complete, Verify, LengthValue, Tag, Switch, TooLarge, Elsewhere, NoSuch}
+use Rattle.refusal.specs.declared.Reason.the-variants.{Incomplete, Complete, Verify, LengthValue, Tag, Switch}
+use Rattle.refusal.specs.declared.Reason.the-variants.{TooLarge, Elsewhere, NoSuch}
 use Rattle.refusal.proofs.Told.{its-reason, unplaced-reason, inside-reason}
 use Rattle.refusal.proofs.Then.{then-accepted}
 use Rattle.wire.specs.Parts.{pick, ifSome, lookup, partOf}
@@ -43,10 +45,18 @@ use Rattle.record_walk.specs.declared.TlsRecordWalk.{TlsRecordWalk}
 use Rattle.record.specs.Records.{header, raw, encrypted}
 use Rattle.record.specs.declared.TlsRawRecord.{TlsRawRecord}
 use Rattle.record_open.specs.declared.TlsPlaintextOpened.{TlsPlaintextOpened}
-use Rattle.record_open.specs.Plaintext.{firstRefusal, asFirst, plainRecord, handshakes, otherType, openedFirst, plaintext}
+use Rattle.record_open.specs.Plaintext.{firstRefusal, asFirst, plainRecord, handshakes, otherType, openedFirst}
+use Rattle.record_open.specs.Plaintext.{plaintext}
 use Rattle.record_joined.specs.Joined.{recordFrom}
-use Rattle.claim_readers.specs.Readers.{_&_, end, inOrder, less, over, beside, clientCase, startCase, serverCase, byVersionCase, draft18Case, serverMessageCase, retryCase, ticketCase, certificateCase, requestCase, statusCase, nextProtocolCase, keyUpdateCase, wholeCase, openedCase, bodyCase, headChecks, headCase, metCase, headerCase, rawCase, ofFirst, recordTypeCase, plaintextCase, placeCase, itemCase, itemCount, walkCase}
-use Rattle.claim_readers.proofs.Checks.{number-on, number-within, number-else, number-pick, then-assoc, not-leb, not-even, by-test, fewer-first, part-taken, number-then, fixed-then, vector-then, form-then, form-number, by-number, outside, either-side}
+use Rattle.claim_readers.specs.Readers.{_&_, end, inOrder, less, over, beside, clientCase, startCase, serverCase}
+use Rattle.claim_readers.specs.Readers.{byVersionCase, draft18Case, serverMessageCase, retryCase, ticketCase}
+use Rattle.claim_readers.specs.Readers.{certificateCase, requestCase, statusCase, nextProtocolCase}
+use Rattle.claim_readers.specs.Readers.{keyUpdateCase, wholeCase, openedCase, bodyCase, headChecks, headCase}
+use Rattle.claim_readers.specs.Readers.{metCase, headerCase, rawCase, ofFirst, recordTypeCase, plaintextCase}
+use Rattle.claim_readers.specs.Readers.{placeCase, itemCase, itemCount, walkCase}
+use Rattle.claim_readers.proofs.Checks.{number-on, number-within, number-else, number-pick, then-assoc, not-leb}
+use Rattle.claim_readers.proofs.Checks.{not-even, by-test, fewer-first, part-taken, number-then, fixed-then}
+use Rattle.claim_readers.proofs.Checks.{vector-then, form-then, form-number, by-number, outside, either-side}
 
 pub client-hello : (s : List ℕ) → numberIn (reading client s) ≡ clientCase s
 unfolding clientCase inOrder
@@ -56,22 +66,36 @@ client-hello s =
     let a : 35 + id + 2 ≡ 37 + id = omega arith in
     let b : 37 + id + cs + 1 ≡ 38 + id + cs = omega arith in
     let verify = by-test (leb id 32) (λ at behind. refusal Verify at 0) 34 35 (its-reason Verify 34 0) in
-    let even = by-test (eqb (cs % 2) 0) (λ at behind. refusal LengthValue behind 0) (35 + id) (37 + id) (its-reason LengthValue (37 + id) 0) in
+    let even =
+    by-test (eqb (cs % 2) 0) (λ at behind. refusal LengthValue behind 0) (35 + id) (37 + id)
+    (its-reason LengthValue (37 + id) 0) in
     rw (form-number client s, a, b, verify, even, not-leb, not-even)
 
 pub start-hello : (s : List ℕ) → numberIn (reading helloStart s) ≡ startCase s
 unfolding startCase inOrder
-start-hello s = rw (form-number helloStart s, by-test (leb (be 1 s 34) 32) (λ at behind. refusal Verify at 0) 34 35 (its-reason Verify 34 0), not-leb)
+start-hello s =
+    rw (
+      form-number helloStart s,
+      by-test (leb (be 1 s 34) 32) (λ at behind. refusal Verify at 0) 34 35 (its-reason Verify 34 0),
+      not-leb,
+    )
 
 pub server-hello : (hasExt : Bool) (s : List ℕ) → numberIn (reading (server hasExt) s) ≡ serverCase s
 unfolding serverCase inOrder
 server-hello hasExt s =
     let e : 35 + be 1 s 34 + 2 + 1 ≡ 38 + be 1 s 34 = omega arith in
-    rw (form-number (server hasExt) s, e, by-test (leb (be 1 s 34) 32) (λ at behind. refusal Verify at 0) 34 35 (its-reason Verify 34 0), not-leb)
+    rw (
+      form-number (server hasExt) s,
+      e,
+      by-test (leb (be 1 s 34) 32) (λ at behind. refusal Verify at 0) 34 35 (its-reason Verify 34 0),
+      not-leb,
+    )
 
 -- a version from 0x0300 to 0x0303 is listed, and no other
 abbrev Listed : List ℕ → ℕ → Type 0
-Listed s v = numberIn (ifListed (lookup v serverVersions) s) ≡ inOrder (less v 0x0300 Tag ∷ over v 0x0303 Tag ∷ []) (serverCase s)
+Listed s v =
+    numberIn (ifListed (lookup v serverVersions) s) ≡ inOrder (less v 0x0300 Tag ∷ over v 0x0303 Tag ∷ [])
+    (serverCase s)
 
 listed : (s : List ℕ) (v : ℕ) → Listed s v
 unfolding inOrder
@@ -79,7 +103,13 @@ listed s v =
     by-number (Listed s) (0x0300 ∷ 0x0301 ∷ 0x0302 ∷ 0x0303 ∷ [])
     (server-hello false s & server-hello true s & server-hello true s & server-hello true s & end) v
     (λ (a, (b, (c, (d, _)))).
-    let f : 0x0300 ≤ v → 0x0303 < v = λ h. omega (arith, eqb-false v 0x0300 a, eqb-false v 0x0301 b, eqb-false v 0x0302 c, eqb-false v 0x0303 d) in
+    let f : 0x0300 ≤ v → 0x0303 < v = λ h. omega (
+      arith,
+      eqb-false v 0x0300 a,
+      eqb-false v 0x0301 b,
+      eqb-false v 0x0302 c,
+      eqb-false v 0x0303 d,
+    ) in
     rw (a, b, c, d, its-reason Tag 0 0) (sym (outside 0x0300 0x0303 v (numberOf Tag) (serverCase s) f)))
 
 pub server-by-version : (s : List ℕ) → numberIn (byVersion serverVersions s) ≡ byVersionCase s
@@ -106,12 +136,13 @@ pub of-certificate : (s : List ℕ) → numberIn (reading certificate s) ≡ cer
 unfolding certificateCase inOrder
 of-certificate s = form-number certificate s
 
--- two forms that ask for a and b bytes, then the first for d and e, the second for c: both lack just where the second does, c being no more
--- than d
+-- two forms that ask for a and b bytes, then the first for d and e, the second for c: both lack
+-- just where the second does, c being no more than d
 abbrev EitherForm : ℕ → ℕ → ℕ → ℕ → ℕ → ℕ → Type 0
 EitherForm l a b c d e =
     _≡_ {A = ℕ}
-    (pick (eqb (pick (ltb l a) 1 (pick (ltb l b) 1 (pick (ltb l d) 1 (pick (ltb l e) 1 0)))) 0) 0 (pick (eqb (pick (ltb l a) 1 (pick (ltb l b) 1 (pick (ltb l c) 1 0))) 0) 0 2))
+    (pick (eqb (pick (ltb l a) 1 (pick (ltb l b) 1 (pick (ltb l d) 1 (pick (ltb l e) 1 0)))) 0) 0
+    (pick (eqb (pick (ltb l a) 1 (pick (ltb l b) 1 (pick (ltb l c) 1 0))) 0) 0 2))
     (pick (ltb l a) 2 (pick (ltb l b) 2 (pick (ltb l c) 2 0)))
 
 other-form : (l a b c d e : ℕ) → c ≤ d → EitherForm l a b c d e
@@ -133,7 +164,15 @@ of-request s =
     let types = be 1 s 0 in
     let names = be 2 s (1 + types) in
     let e : 1 + types + 2 ≡ 3 + types = omega arith in
-    rw (number-else, number-else, form-number (request true) s, form-number (request false) s, its-reason Complete 0 0, add-zero (1 + types), e)
+    rw (
+      number-else,
+      number-else,
+      form-number (request true) s,
+      form-number (request false) s,
+      its-reason Complete 0 0,
+      add-zero (1 + types),
+      e,
+    )
     (other-form (length s) 1 (3 + types) (3 + types + names) (3 + types + names + 2) _ (omega arith))
 
 pub of-status : (s : List ℕ) → numberIn (reading status s) ≡ statusCase s
@@ -202,13 +241,20 @@ opens-in : (at start k : ℕ) (s : List ℕ) → numberIn (byTypeIn at start k s
 unfolding byTypeIn byType opened
 opens-in at start k s = go (lookup k (openings (length s) s)) ∙ opens-all k s
   where
-    go : (o : Option (Answer TlsMessageHandshake)) → numberIn (ifSome o (within start) (refused (refusal Switch at 0))) ≡ numberIn (ifSome o (λ a. a) (refused (unplaced Switch)))
+    go : (o : Option (Answer TlsMessageHandshake))
+        → numberIn (ifSome o (within start) (refused (refusal Switch at 0))) ≡ numberIn
+        (ifSome o (λ a. a) (refused (unplaced Switch)))
     go none = ap numberOf (its-reason Switch at 0 ∙ sym (unplaced-reason Switch))
     go (some a) = number-within start a
 
 -- the head of a message at a place, where it is there
 abbrev headThere : List ℕ → ℕ → TlsMessageHead
-headThere s at = record { «msg_type» = be 1 s at; body = record { start = at + 4; len = be 3 s (at + 1) }; next = at + 4 + be 3 s (at + 1) }
+headThere s at =
+    record {
+      «msg_type» = be 1 s at;
+      body = record { start = at + 4; len = be 3 s (at + 1) };
+      next = at + 4 + be 3 s (at + 1);
+    }
 
 -- a message's head, and what follows
 head-then : {B : Type 0} (s : List ℕ) (at : ℕ) (k : TlsMessageHead → Answer B)
@@ -228,9 +274,14 @@ metThere s at m = record { head = headThere s at; says = m }
 pub meets : (at : ℕ) (s : List ℕ) → numberIn (metAt s at) ≡ metCase at s
 unfolding metAt metCase inOrder
 meets at s =
-    let kind = be 1 s at in
-    let m = number-on (byTypeIn at (at + 4) kind (partOf s (headThere s at .body))) (metThere s at) in
-    rw (head-then, m, opens-in at (at + 4) kind (partOf s (headThere s at .body)), part-taken s (at + 4) (be 3 s (at + 1)) 1 (bodyCase kind))
+    let msgType = be 1 s at in
+    let m = number-on (byTypeIn at (at + 4) msgType (partOf s (headThere s at .body))) (metThere s at) in
+    rw (
+      head-then,
+      m,
+      opens-in at (at + 4) msgType (partOf s (headThere s at .body)),
+      part-taken s (at + 4) (be 3 s (at + 1)) 1 (bodyCase msgType),
+    )
 
 pub meets-head : (at : ℕ) (s : List ℕ) → numberIn (metHead s at) ≡ metCase at s
 unfolding metHead
@@ -249,16 +300,28 @@ record-header s =
 
 pub raw-record : (s : List ℕ) → numberIn (reading raw s) ≡ rawCase s
 unfolding rawCase inOrder
-raw-record s = rw (form-number raw s, by-test (leb (be 2 s 3) 16640) (λ at behind. refusal TooLarge at 0) 3 5 (its-reason TooLarge 3 0), not-leb)
+raw-record s =
+    rw (
+      form-number raw s,
+      by-test (leb (be 2 s 3) 16640) (λ at behind. refusal TooLarge at 0) 3 5 (its-reason TooLarge 3 0),
+      not-leb,
+    )
 
 pub encrypted-record : (s : List ℕ) → numberIn (encrypted s) ≡ rawCase s
 unfolding encrypted
-encrypted-record s = number-on (reading raw s) (λ r. record { hdr = r .hdr; msg = record { blob = r .«data» }; next = r .next }) ∙ raw-record s
+encrypted-record s =
+    number-on (reading raw s) (λ r. record { hdr = r .hdr; msg = record { blob = r .«data» }; next = r .next })
+    ∙ raw-record s
 
 pub record-at : (at : ℕ) (s : List ℕ) → numberIn (recordFrom s at) ≡ rawCase (drop at s)
 unfolding recordFrom
 record-at at s =
-    number-on (reading raw (drop at s)) (λ r. record { hdr = r .hdr; «data» = record { start = at + r .«data» .start; len = r .«data» .len }; next = at + r .next })
+    number-on (reading raw (drop at s))
+    (λ r. record {
+      hdr = r .hdr;
+      «data» = record { start = at + r .«data» .start; len = r .«data» .len };
+      next = at + r .next;
+    })
     ∙ raw-record (drop at s)
 
 -- Incomplete from the first message becomes Complete
@@ -266,28 +329,39 @@ first-number : {A : Type 0} (at : ℕ) (x : Answer A) → numberIn (asFirst at x
 first-number at (accepted a) = refl
 first-number at (refused r) = go (eqb (numberOf (r .reason)) 1) refl
   where
-    go : (t : Bool) → eqb (numberOf (r .reason)) 1 ≡ t → numberOf (firstRefusal at r .reason) ≡ ofFirst (numberOf (r .reason))
+    go : (t : Bool) → eqb (numberOf (r .reason)) 1 ≡ t
+        → numberOf (firstRefusal at r .reason) ≡ ofFirst (numberOf (r .reason))
     go true q = rw q (ap numberOf (its-reason Complete at 0))
     go false q = rw q (ap numberOf (inside-reason at r))
 
 handshake-number : (r : TlsRawRecord) (content : List ℕ) → numberIn (handshakes r content) ≡ ofFirst (metCase 0 content)
 unfolding handshakes
 handshake-number r content =
-    number-on (asFirst (r .«data» .start) (metAt content 0)) (λ x. record { «record» = plainRecord r content; head = x .head; message = x .says })
+    number-on (asFirst (r .«data» .start) (metAt content 0))
+    (λ x. record { «record» = plainRecord r content; head = x .head; message = x .says })
     ∙ rw (← meets 0 content) (first-number (r .«data» .start) (metAt content 0))
 
 -- by the record's type
 abbrev byRecordType : ℕ → TlsRawRecord → List ℕ → Answer TlsPlaintextOpened
 byRecordType t r content = pick (eqb t 0x16) (handshakes r content) (refused (otherType t))
 
-by-record-type : (t : ℕ) (r : TlsRawRecord) (content : List ℕ) → numberIn (byRecordType t r content) ≡ recordTypeCase t content
+by-record-type : (t : ℕ) (r : TlsRawRecord) (content : List ℕ)
+    → numberIn (byRecordType t r content) ≡ recordTypeCase t content
 unfolding recordTypeCase inOrder
 by-record-type t r content =
     let elsewhere = ap numberOf (its-reason Elsewhere 0 0) in
-    by-number (λ x. numberIn (byRecordType x r content) ≡ recordTypeCase x content) (0x14 ∷ 0x15 ∷ 0x16 ∷ 0x17 ∷ 0x18 ∷ [])
+    by-number (λ x. numberIn (byRecordType x r content) ≡ recordTypeCase x content)
+    (0x14 ∷ 0x15 ∷ 0x16 ∷ 0x17 ∷ 0x18 ∷ [])
     (elsewhere & elsewhere & handshake-number r content & elsewhere & elsewhere & end) t
     (λ (a, (b, (c, (d, (e, _))))).
-    let f : 0x14 ≤ t → 0x18 < t = λ h. omega (arith, eqb-false t 0x14 a, eqb-false t 0x15 b, eqb-false t 0x16 c, eqb-false t 0x17 d, eqb-false t 0x18 e) in
+    let f : 0x14 ≤ t → 0x18 < t = λ h. omega (
+      arith,
+      eqb-false t 0x14 a,
+      eqb-false t 0x15 b,
+      eqb-false t 0x16 c,
+      eqb-false t 0x17 d,
+      eqb-false t 0x18 e,
+    ) in
     rw (c, either-side 0x14 0x18 t f, its-reason Switch 0 0) (sym (outside 0x14 0x18 t (numberOf Switch) _ f)))
 
 pub plaintext-opened : (s : List ℕ) → numberIn (openedFirst s) ≡ plaintextCase s
@@ -305,7 +379,9 @@ unfolding placeCase inOrder
 number-place k xs = go (leb (length xs) k) refl
   where
     go : (t : Bool) → leb (length xs) k ≡ t → numberIn (place k xs) ≡ placeCase k (length xs)
-    go true q = rw (place-past k xs (leb-true _ _ q)) (ap numberOf (its-reason NoSuch 0 0) ∙ sym (ap (λ (u : Bool). pick u (numberOf NoSuch) 0) q))
+    go true q =
+        rw (place-past k xs (leb-true _ _ q))
+        (ap numberOf (its-reason NoSuch 0 0) ∙ sym (ap (λ (u : Bool). pick u (numberOf NoSuch) 0) q))
     go false q = rw (place-below k xs (leb-false _ _ q) .1) (sym (ap (λ (u : Bool). pick u (numberOf NoSuch) 0) q))
 
 pub items-from-place : (w at : ℕ) (s : List ℕ) → numberIn (itemFrom (sized w) s at) ≡ itemCase w at s
@@ -327,24 +403,29 @@ item-found s w at e =
     let u = ruled-accepted (ruleOf Plain) s at (at + w) (be w s at) (rw (number-is w s at (t .1) .is) at (t .2)) in
     ap (λ (p : Part). p .next) (fits Incomplete s (at + w) (be w s at) (u .1) .is)
 
-item-case : (s : List ℕ) (w at : ℕ) {a : Answer Part} → step (sized w) s at ≡ a → itemCase w at s ≡ numberIn (orNoSuch a)
+item-case : (s : List ℕ) (w at : ℕ) {a : Answer Part} → step (sized w) s at ≡ a
+    → itemCase w at s ≡ numberIn (orNoSuch a)
 unfolding itemFrom
 item-case s w at e = sym (items-from-place w at s) ∙ rw e
 
-item-count : (s : List ℕ) (w n at : ℕ) → length (itemsFrom n (step (sized w) s) (λ (p : Part). p .next) at) ≡ itemCount n w at s
+item-count : (s : List ℕ) (w n at : ℕ)
+    → length (itemsFrom n (step (sized w) s) (λ (p : Part). p .next) at) ≡ itemCount n w at s
 unfolding itemsFrom itemCount
 item-count s w zero at = refl
 item-count s w (suc n) at = go (step (sized w) s at) refl (λ p. item-count s w n p)
   where
-    go : (a : Answer Part) → step (sized w) s at ≡ a → ((p : ℕ) → length (itemsFrom n (step (sized w) s) (λ (p : Part). p .next) p) ≡ itemCount n w p s)
+    go : (a : Answer Part) → step (sized w) s at ≡ a
+        → ((p : ℕ) → length (itemsFrom n (step (sized w) s) (λ (p : Part). p .next) p) ≡ itemCount n w p s)
         → length (itemsFrom (suc n) (step (sized w) s) (λ (p : Part). p .next) at) ≡ itemCount (suc n) w at s
     go (accepted p) e ih = rw (e, item-case s w at e, ih (p .next), item-found s w at e)
     go (refused r) e ih = rw (e, item-case s w at e, its-reason NoSuch 0 0)
 
-pub item-places : (w k : ℕ) (s : List ℕ) → numberIn (place k (items (sized w) s)) ≡ placeCase k (itemCount (length s) w 0 s)
+pub item-places : (w k : ℕ) (s : List ℕ)
+    → numberIn (place k (items (sized w) s)) ≡ placeCase k (itemCount (length s) w 0 s)
 item-places w k s = rw (← item-count s w (length s) 0) (number-place k (items (sized w) s))
 
-pub any-number-place : (w k : ℕ) (s : List ℕ) → numberIn (numberPlace k w s) ≡ placeCase k (length (items (Field.fixed w) s))
+pub any-number-place : (w k : ℕ) (s : List ℕ)
+    → numberIn (numberPlace k w s) ≡ placeCase k (length (items (Field.fixed w) s))
 any-number-place w k s =
     number-on (place k (items (Field.fixed w) s)) (λ p. record { value = be w s (p .view .start); next = p .next })
     ∙ number-place k (items (Field.fixed w) s)

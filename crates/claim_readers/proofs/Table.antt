@@ -1,5 +1,5 @@
--- The table of `specs/Readers.antt`, a row each: the law of its numbers, which refusals its case gives, and some bytes for each of them.
--- Assumes nothing.
+-- The table of `specs/Readers.antt`, a row each: the law of its numbers, which refusals its case
+-- gives, and some bytes for each of them. Assumes nothing.
 use Prim.Native.Nat.{ℕ, _+_, _≤_}
 use mathlib.Core.Path.{_≡_, refl, ap, sym, _∙_}
 use mathlib.Core.List.{List, [], _∷_, _++_}
@@ -16,9 +16,21 @@ use Rattle.wire.specs.Numbers.{be}
 use Rattle.field.specs.Fields.{step}
 use Rattle.list.specs.Items.{items, itemsFrom, itemFrom}
 use Rattle.list.proofs.Fixed.{count-of}
-use Rattle.claim_readers.specs.Readers.{Check, inOrder, under, beside, startCase, clientCase, serverCase, byVersionCase, draft18Case, serverMessageCase, retryCase, ticketCase, certificateCase, requestCase, statusCase, nextProtocolCase, keyUpdateCase, wholeCase, openedCase, bodyCase, headCase, metCase, headerCase, rawCase, recordTypeCase, plaintextCase, placeCase, itemCase, itemCount, walkCase, All, _&_, end, Gives, ofMessage, Readers}
-use Rattle.claim_readers.proofs.Readers.{client-hello, start-hello, server-hello, server-by-version, draft18-hello, of-retry, of-ticket, of-certificate, of-request, of-status, of-next-protocol, server-as, key-update, whole-as, opens, opens-all, heads, meets, meets-head, message-first, record-header, raw-record, encrypted-record, record-at, plaintext-record, plaintext-opened, number-place, items-from-place, item-places, number-places, any-number-place, numbers, walks}
-use Rattle.claim_readers.proofs.Only.{Only, checks-only, only-order, server-message-only, opened-only, met-only, plaintext-only, place-only, walk-only, no-such}
+use Rattle.claim_readers.specs.Readers.{Check, inOrder, under, beside, startCase, clientCase, serverCase}
+use Rattle.claim_readers.specs.Readers.{byVersionCase, draft18Case, serverMessageCase, retryCase, ticketCase}
+use Rattle.claim_readers.specs.Readers.{certificateCase, requestCase, statusCase, nextProtocolCase}
+use Rattle.claim_readers.specs.Readers.{keyUpdateCase, wholeCase, openedCase, bodyCase, headCase, metCase}
+use Rattle.claim_readers.specs.Readers.{headerCase, rawCase, recordTypeCase, plaintextCase, placeCase, itemCase}
+use Rattle.claim_readers.specs.Readers.{itemCount, walkCase, All, _&_, end, Gives, ofMessage, Readers}
+use Rattle.claim_readers.proofs.Readers.{client-hello, start-hello, server-hello, server-by-version}
+use Rattle.claim_readers.proofs.Readers.{draft18-hello, of-retry, of-ticket, of-certificate, of-request}
+use Rattle.claim_readers.proofs.Readers.{of-status, of-next-protocol, server-as, key-update, whole-as, opens}
+use Rattle.claim_readers.proofs.Readers.{opens-all, heads, meets, meets-head, message-first, record-header}
+use Rattle.claim_readers.proofs.Readers.{raw-record, encrypted-record, record-at, plaintext-record}
+use Rattle.claim_readers.proofs.Readers.{plaintext-opened, number-place, items-from-place, item-places}
+use Rattle.claim_readers.proofs.Readers.{number-places, any-number-place, numbers, walks}
+use Rattle.claim_readers.proofs.Only.{Only, checks-only, only-order, server-message-only, opened-only, met-only}
+use Rattle.claim_readers.proofs.Only.{plaintext-only, place-only, walk-only, no-such}
 
 -- a ClientHello with a cipher length of 1
 abbrev oddCiphers : List ℕ
@@ -32,7 +44,8 @@ longId = 0x03 ∷ 0x03 ∷ (replicate 32 0 ++ (0x21 ∷ []))
 abbrev version0400 : List ℕ
 version0400 = 0x04 ∷ 0x00 ∷ []
 
--- messages: an empty CertificateRequest, an empty ticket, a ClientHello, a ServerHello of version 0x0400, one of type 0x03
+-- messages: an empty CertificateRequest, an empty ticket, a ClientHello, a ServerHello of version
+-- 0x0400, one of type 0x03
 abbrev emptyRequest : List ℕ
 emptyRequest = 0x0d ∷ 0x00 ∷ 0x00 ∷ 0x00 ∷ []
 
@@ -65,13 +78,15 @@ abbrev Lent : {L : Type 0} → (L → ℕ) → List Reason → Type 0
 Lent {L} number whys = All (λ why. (lent : L) × (number lent ≡ numberOf why)) whys
 
 -- the same for other numbers, where they are these
-lent-too : {L M : Type 0} (f : L → M) (number : L → ℕ) (other : M → ℕ) → ((lent : L) → other (f lent) ≡ number lent) → (whys : List Reason)
+lent-too : {L M : Type 0} (f : L → M) (number : L → ℕ) (other : M → ℕ) → ((lent : L) → other (f lent) ≡ number lent)
+    → (whys : List Reason)
     → Lent number whys → Lent other whys
 lent-too f number other e [] end = end
 lent-too f number other e (why ∷ whys) (x & xs) = (f (x .0), e (x .0) ∙ x .1) & lent-too f number other e whys xs
 
 -- a row: the law of its numbers, which refusals its case gives, and something lent for each of them
-row : {L A : Type 0} {reader : L → Answer A} {case : L → ℕ} {whys : List Reason} → ((lent : L) → numberIn (reader lent) ≡ case lent)
+row : {L A : Type 0} {reader : L → Answer A} {case : L → ℕ} {whys : List Reason}
+    → ((lent : L) → numberIn (reader lent) ≡ case lent)
     → ((lent : L) → Only whys (case lent)) → Lent case whys → Gives reader case whys
 row {reader} {case} {whys} e o x = record {
   equal = e;
@@ -80,7 +95,8 @@ row {reader} {case} {whys} e o x = record {
 }
 
 -- no bytes are under one and more
-none-under : (n : ℕ) (why : Reason) (rest : List Check) (k : ℕ) → 1 ≤ n → inOrder (under [] n why ∷ rest) k ≡ numberOf why
+none-under : (n : ℕ) (why : Reason) (rest : List Check) (k : ℕ) → 1 ≤ n
+    → inOrder (under [] n why ∷ rest) k ≡ numberOf why
 unfolding inOrder
 none-under n why rest k h = rw (lt-ltb 0 n h)
 
@@ -92,7 +108,8 @@ none-there k = rw (le-leb 0 k (omega arith))
 -- a message for each of its refusals
 messages : Lent (metCase 0) ofMessage
 unfolding metCase bodyCase openedCase clientCase serverMessageCase byVersionCase ticketCase requestCase inOrder beside be
-messages = ([], refl) & (emptyRequest, refl) & (emptyTicket, refl) & (oddHello, refl) & (laterHello, refl) & (noType, refl) & end
+messages = ([], refl) & (emptyRequest, refl) & (emptyTicket, refl) & (oddHello, refl) & (laterHello, refl)
+    & (noType, refl) & end
 
 -- at a place that is told, the front
 messages-at : Lent (λ (lent : ℕ × List ℕ). metCase (lent .0) (lent .1)) ofMessage
@@ -117,40 +134,55 @@ unfolding startCase clientCase serverCase byVersionCase draft18Case serverMessag
     headCase metCase headerCase rawCase itemCase walkCase itemFrom
 every-reading = record {
   helloStart = row start-hello (λ s. checks-only _ refl) (unfold inOrder be in ([], refl) & (longId, refl) & end);
-  clientHello = row client-hello (λ s. checks-only _ refl) (unfold inOrder be in ([], refl) & (longId, refl) & (oddCiphers, refl) & end);
-  serverHello = λ hasExt. row (server-hello hasExt) (λ s. checks-only _ refl) (unfold inOrder be in ([], refl) & (longId, refl) & end);
+  clientHello =
+      row client-hello (λ s. checks-only _ refl)
+      (unfold inOrder be in ([], refl) & (longId, refl) & (oddCiphers, refl) & end);
+  serverHello =
+      λ hasExt. row (server-hello hasExt) (λ s. checks-only _ refl)
+      (unfold inOrder be in ([], refl) & (longId, refl) & end);
   serverByVersion =
       row server-by-version (λ s. only-order _ refl (checks-only _ refl))
       (unfold inOrder be in ([], refl) & (longId, refl) & (version0400, refl) & end);
   draft18Hello = row draft18-hello (λ s. checks-only _ refl) (unfold inOrder in ([], refl) & end);
   ofRetry = row of-retry (λ s. checks-only _ refl) (unfold inOrder in ([], refl) & end);
-  ofTicket = row (λ (n, s). of-ticket n s) (λ (n, s). checks-only _ refl) (unfold inOrder in ((4, []), refl) & ((0, []), refl) & end);
+  ofTicket =
+      row (λ (n, s). of-ticket n s) (λ (n, s). checks-only _ refl)
+      (unfold inOrder in ((4, []), refl) & ((0, []), refl) & end);
   ofCertificate = row of-certificate (λ s. checks-only _ refl) (unfold inOrder in ([], refl) & end);
   ofRequest = row of-request (λ s. checks-only _ refl) (unfold inOrder in ([], refl) & end);
   ofStatus = row of-status (λ s. checks-only _ refl) (unfold inOrder in ([], refl) & end);
   ofNextProtocol = row of-next-protocol (λ s. checks-only _ refl) (unfold inOrder in ([], refl) & end);
   keyUpdate = row key-update (λ s. checks-only _ refl) (unfold inOrder in ([], refl) & end);
-  serverAs = row server-as server-message-only (unfold inOrder be in ([], refl) & (longId, refl) & (version0400, refl) & end);
-  wholeAs = λ make. row (λ (n, s). whole-as make n s) (λ (n, s). checks-only _ refl) (unfold inOrder in ((1, []), refl) & end);
+  serverAs =
+      row server-as server-message-only (unfold inOrder be in ([], refl) & (longId, refl) & (version0400, refl) & end);
+  wholeAs =
+      λ make. row (λ (n, s). whole-as make n s) (λ (n, s). checks-only _ refl)
+      (unfold inOrder in ((1, []), refl) & end);
   opens =
       λ n. row (λ (k, s). opens n k s) (λ (k, s). opened-only n k s)
       (unfold inOrder beside be in
-      ((0x01, []), refl) & ((0x0d, []), refl) & ((0x01, longId), refl) & ((0x01, oddCiphers), refl) & ((0x02, version0400), refl) & ((0x03, []), refl) & end);
+      ((0x01, []), refl) & ((0x0d, []), refl) & ((0x01, longId), refl) & ((0x01, oddCiphers), refl)
+      & ((0x02, version0400), refl) & ((0x03, []), refl) & end);
   opensAll =
       row (λ (k, s). opens-all k s) (λ (k, s). opened-only (length s) k s)
       (unfold inOrder beside be in
-      ((0x01, []), refl) & ((0x0d, []), refl) & ((0x01, longId), refl) & ((0x01, oddCiphers), refl) & ((0x02, version0400), refl) & ((0x03, []), refl) & end);
+      ((0x01, []), refl) & ((0x0d, []), refl) & ((0x01, longId), refl) & ((0x01, oddCiphers), refl)
+      & ((0x02, version0400), refl) & ((0x03, []), refl) & end);
   heads = λ at. row (heads at) (λ s. checks-only _ refl) (([], none-under (at + 4) Incomplete _ 0 (omega arith)) & end);
   meets = row (λ (at, s). meets at s) (λ (at, s). met-only at s) messages-at;
   meetsHead = row (λ (at, s). meets-head at s) (λ (at, s). met-only at s) messages-at;
   messageFirst = row message-first (met-only 0) messages;
   recordHeader = row record-header (λ s. checks-only _ refl) (unfold inOrder in ([], refl) & end);
   rawRecord = row raw-record (λ s. checks-only _ refl) (unfold inOrder be in ([], refl) & (tooLarge, refl) & end);
-  encryptedRecord = row encrypted-record (λ s. checks-only _ refl) (unfold inOrder be in ([], refl) & (tooLarge, refl) & end);
-  recordAt = row (λ (at, s). record-at at s) (λ (at, s). checks-only _ refl) (unfold inOrder be in ((0, []), refl) & ((0, tooLarge), refl) & end);
+  encryptedRecord =
+      row encrypted-record (λ s. checks-only _ refl) (unfold inOrder be in ([], refl) & (tooLarge, refl) & end);
+  recordAt =
+      row (λ (at, s). record-at at s) (λ (at, s). checks-only _ refl)
+      (unfold inOrder be in ((0, []), refl) & ((0, tooLarge), refl) & end);
   plaintextRecord = row plaintext-record plaintext-only records;
   plaintextOpened = row plaintext-opened plaintext-only records;
-  places = λ f k. row (λ s. number-place k (items f s)) (λ s. place-only k _) (unfold itemsFrom in ([], none-there k) & end);
+  places = λ f k. row (λ s. number-place k (items f s)) (λ s. place-only k _)
+      (unfold itemsFrom in ([], none-there k) & end);
   itemPlaces = λ w k. row (item-places w k) (λ s. place-only k _) (unfold itemCount in ([], none-there k) & end);
   numberPlaces =
       λ w k one. row (number-places w k one) (λ s. place-only k _)
@@ -163,7 +195,11 @@ every-reading = record {
       (((1, []), none-under (1 + w) Incomplete [] 0 (omega arith)) & end);
   walks =
       λ w. row (walks w) (walk-only (w .next))
-      (([], ap (λ (c : ℕ). pick (eqb c 0) 0 (numberOf NoSuch)) (none-under (w .next + 4) Incomplete _ _ (omega arith))) & end);
+      ((
+        [],
+        ap (λ (c : ℕ). pick (eqb c 0) 0 (numberOf NoSuch))
+            (none-under (w .next + 4) Incomplete _ _ (omega arith)),
+      ) & end);
   anyNumberPlace = λ w k s. rw (any-number-place w k s) (place-only k _ .given);
   anyItemFrom = λ f at s. no-such (step f s at) .given;
 }

@@ -1,7 +1,8 @@
--- Document 01, "What the tap says when it says no": "Each is given only then". The rules of reading a second time, straight from that
--- document: for each reader the paper's number, by places and lengths in the bytes lent, with no field, rule, grammar or step in it;
--- `places` alone, of any field's items, takes their count from `items`. At the end, `Readers`, a table: each reader, its case, its
--- refusals. Shown by `proofs/Table.antt`.
+-- When each reader refuses, said a second time: RULES 1.2, and the rules and sections of RFC 5246
+-- that the cases name. For each reader the table's number, by places and lengths in the bytes lent,
+-- with no field, rule, grammar or step in it; `places` alone, of any field's items, takes their
+-- count from `items`. At the end, `Readers`, a table: each reader, its case, its refusals. Shown by
+-- `proofs/Table.antt`.
 use Rattle.refusal.specs.{ℕ, zero, suc, _+_, _/_, _%_, _≤_, _≡_, List, [], _∷_, Bool, length, take, drop, leb, ltb, eqb, Answer, numberIn, numberOf, Reason, Incomplete, Complete, Verify, LengthValue, Tag, Switch, TooLarge, Elsewhere, NoSuch, OneOf}
 use Rattle.wire.specs.{pick, be, numberAt, View}
 use Rattle.field.specs.{Field, sized}
@@ -25,7 +26,7 @@ use Rattle.record_joined.specs.Joined.{recordFrom}
 abbrev pub Check : Type 0
 Check = Bool × Reason
 
--- "Checks go in field order": the number of the first that holds; where none does, what is left to say
+-- RULES 3.1: the number of the first that holds; where none does, what is left to say
 unfoldable pub inOrder : List Check → ℕ → ℕ
 inOrder [] k = k
 inOrder ((holds, why) ∷ checks) k = pick holds (numberOf why) (inOrder checks k)
@@ -46,7 +47,8 @@ over x n why = (ltb n x, why)
 abbrev pub is : ℕ → ℕ → Reason → Check
 is x n why = (eqb x n, why)
 
--- ClientHello: version 2, random 32, id length 1 (0 to 32), id, cipher length 2 (even), ciphers, compression length 1, methods
+-- RULES 3.2, RFC 5246 7.4.1.2. ClientHello: version 2, random 32, length 1 and id, length 2 and
+-- ciphers, length 1 and methods
 unfoldable pub clientCase : List ℕ → ℕ
 clientCase s =
     let id = be 1 s 34 in
@@ -63,67 +65,69 @@ clientCase s =
     ∷ [])
     0
 
--- what both hellos begin with: version 2, random 32, id length 1 (0 to 32), id
+-- RULES 3.2, 3.3: what both hellos begin with, version 2, random 32, length 1 and id
 unfoldable pub startCase : List ℕ → ℕ
 startCase s =
     let id = be 1 s 34 in
     inOrder (under s 35 Incomplete ∷ over id 32 Verify ∷ under s (35 + id) Incomplete ∷ []) 0
 
--- ServerHello, whatever its version: version 2, random 32, id length and id as above, cipher 2, compression 1
+-- RULES 3.3, RFC 5246 7.4.1.3. ServerHello, whatever its version: version 2, random 32, length 1
+-- and id, cipher 2, compression 1
 unfoldable pub serverCase : List ℕ → ℕ
 serverCase s =
     let id = be 1 s 34 in
     inOrder (under s 35 Incomplete ∷ over id 32 Verify ∷ under s (38 + id) Incomplete ∷ []) 0
 
--- "The ServerHello version is looked at before anything else; under 2 bytes is Incomplete"; Tag for one not listed
+-- RULES 3.10: the version before all else; Tag for one not listed
 unfoldable pub byVersionCase : List ℕ → ℕ
 byVersionCase s =
     let v = be 2 s 0 in
     inOrder (under s 2 Incomplete ∷ less v 0x0300 Tag ∷ over v 0x0303 Tag ∷ []) (serverCase s)
 
--- draft 18: version 2, random 32, cipher 2
+-- RULES 3.5, draft-ietf-tls-tls13-18 4.1.3. Draft 18: version 2, random 32, cipher 2
 unfoldable pub draft18Case : List ℕ → ℕ
 draft18Case s = inOrder (under s 36 Incomplete ∷ []) 0
 
--- a ServerHello or draft 18's: "Only `parse_tls_handshake_msg_server_hello` opens it; `parse_tls_handshake_server_hello` answers Tag"
+-- RULES 3.6: a ServerHello or draft 18's, which this reader alone opens
 unfoldable pub serverMessageCase : List ℕ → ℕ
 serverMessageCase s = inOrder (under s 2 Incomplete ∷ []) (pick (eqb (be 2 s 0) 0x7f12) (draft18Case s) (byVersionCase s))
 
--- HelloRetryRequest: version 2, cipher 2
+-- RULES 4.3, draft-ietf-tls-tls13-18 4.1.4. HelloRetryRequest: version 2, cipher 2
 unfoldable pub retryCase : List ℕ → ℕ
 retryCase s = inOrder (under s 4 Incomplete ∷ []) 0
 
--- NewSessionTicket of a given length: "the ticket's Verify, for a given length under 4, comes first"
+-- RULES 4.14, RFC 5077 3.3. NewSessionTicket of a given length: Verify comes first
 unfoldable pub ticketCase : ℕ → List ℕ → ℕ
 ticketCase n s = inOrder (less n 4 Verify ∷ under s n Incomplete ∷ []) 0
 
--- Certificate: length 3, then a list
+-- RULES 4.4, RFC 5246 7.4.2. Certificate: length 3, then a list
 unfoldable pub certificateCase : List ℕ → ℕ
 certificateCase s = inOrder (under s 3 Incomplete ∷ under s (3 + be 3 s 0) Incomplete ∷ []) 0
 
--- CertificateRequest, "If both fail: Complete": type count 1, types, length 2, names. What holds the long form holds the short one too
+-- RULES 4.9, RFC 5246 7.4.4. CertificateRequest, Complete where both forms are refused: length 1
+-- and types, length 2 and names. What holds the long form holds the short one too
 unfoldable pub requestCase : List ℕ → ℕ
 requestCase s =
     let types = be 1 s 0 in
     let names = be 2 s (1 + types) in
     inOrder (under s 1 Complete ∷ under s (3 + types) Complete ∷ under s (3 + types + names) Complete ∷ []) 0
 
--- CertificateStatus: type 1, length 3, blob
+-- RULES 4.10, RFC 6066 8. CertificateStatus: type 1, length 3 and that many bytes
 unfoldable pub statusCase : List ℕ → ℕ
 statusCase s = inOrder (under s 4 Incomplete ∷ under s (4 + be 3 s 1) Incomplete ∷ []) 0
 
--- NextProtocol: two parts, each with length 1
+-- RULES 4.11. NextProtocol: two parts, a length of 1 before each
 unfoldable pub nextProtocolCase : List ℕ → ℕ
 nextProtocolCase s =
     let protocol = be 1 s 0 in
     let padding = be 1 s (1 + protocol) in
     inOrder (under s 1 Incomplete ∷ under s (2 + protocol) Incomplete ∷ under s (2 + protocol + padding) Incomplete ∷ []) 0
 
--- KeyUpdate: one byte
+-- RULES 4.12, RFC 8446 4.6.3. KeyUpdate: one byte
 unfoldable pub keyUpdateCase : List ℕ → ℕ
 keyUpdateCase s = inOrder (under s 1 Incomplete ∷ []) 0
 
--- a body handed out whole: "Incomplete when the length is more than the bytes"
+-- RULES 4.14: a body handed out whole, Incomplete if the length is more than the bytes
 unfoldable pub wholeCase : ℕ → List ℕ → ℕ
 wholeCase n s = inOrder (under s n Incomplete ∷ []) 0
 
@@ -132,8 +136,7 @@ unfoldable pub beside : ℕ → List (ℕ × ℕ) → ℕ → ℕ
 beside k [] other = other
 beside k ((t, c) ∷ rest) other = pick (eqb k t) c (beside k rest other)
 
--- a body by its type k: "The type decides", and "All others, 0x03, 0x08 and 0x15 among them: Switch"; n is the length where one is handed
--- over
+-- RULES 5.4, 5.5, RFC 5246 7.4: a body by its type k; n is the length where one is handed over
 unfoldable pub openedCase : ℕ → ℕ → List ℕ → ℕ
 openedCase k n s =
     beside k
@@ -160,7 +163,7 @@ openedCase k n s =
 unfoldable pub bodyCase : ℕ → List ℕ → ℕ
 bodyCase k s = openedCase k (length s) s
 
--- a message at a place: type 1, length 3, body
+-- RULES 5.1, RFC 5246 7.4: a message at a place, type 1, length 3, body
 abbrev pub headChecks : ℕ → List ℕ → List Check
 headChecks at s = under s (at + 4) Incomplete ∷ under s (at + 4 + be 3 s (at + 1)) Incomplete ∷ []
 
@@ -168,38 +171,38 @@ headChecks at s = under s (at + 4) Incomplete ∷ under s (at + 4 + be 3 s (at +
 unfoldable pub headCase : ℕ → List ℕ → ℕ
 headCase at s = inOrder (headChecks at s) 0
 
--- the message: "Length and body are taken before the type is looked at"
+-- RULES 5.2: the message, its length and body before its type
 unfoldable pub metCase : ℕ → List ℕ → ℕ
 metCase at s = inOrder (headChecks at s) (bodyCase (be 1 s at) (take (be 3 s (at + 1)) (drop (at + 4) s)))
 
--- a record's header: type 1, version 2, length 2
+-- RULES 6.1, RFC 5246 6.2.1: a record's header, type 1, version 2, length 2
 unfoldable pub headerCase : List ℕ → ℕ
 headerCase s = inOrder (under s 5 Incomplete ∷ []) 0
 
--- a record: "Order: header Incomplete, TooLarge, body Incomplete, then the type"
+-- RULES 6.2: a record, its header, then its length, then its content
 abbrev pub recordChecks : List ℕ → List Check
 recordChecks s = under s 5 Incomplete ∷ over (be 2 s 3) 16640 TooLarge ∷ under s (5 + be 2 s 3) Incomplete ∷ []
 
--- "Raw and encrypted readers take any type"
+-- RULES 6.3: of any type
 unfoldable pub rawCase : List ℕ → ℕ
 rawCase s = inOrder (recordChecks s) 0
 
--- "Incomplete from the first message becomes Complete, its other refusals stay"
+-- RULES 6.5: Incomplete from the first message becomes Complete
 abbrev pub ofFirst : ℕ → ℕ
 ofFirst c = pick (eqb c (numberOf Incomplete)) (numberOf Complete) c
 
--- by a record's type: "Types outside 0x14 to 0x18 are Switch"; 0x14, 0x15, 0x17 and 0x18 are Elsewhere; what is left is 0x16
+-- RULES 6.9: by a record's type, Switch and Elsewhere; what is left is 0x16
 unfoldable pub recordTypeCase : ℕ → List ℕ → ℕ
 recordTypeCase t content =
     inOrder
     (less t 0x14 Switch ∷ over t 0x18 Switch ∷ is t 0x14 Elsewhere ∷ is t 0x15 Elsewhere ∷ is t 0x17 Elsewhere ∷ is t 0x18 Elsewhere ∷ [])
     (ofFirst (metCase 0 content))
 
--- a plaintext record: the type decides after all that
+-- RULES 6.2: a plaintext record, whose type decides at last
 unfoldable pub plaintextCase : List ℕ → ℕ
 plaintextCase s = inOrder (recordChecks s) (recordTypeCase (be 1 s 0) (take (be 2 s 3) (drop 5 s)))
 
--- NoSuch: "a list place at or past the count"
+-- RULES 2.8: NoSuch from the count on
 unfoldable pub placeCase : ℕ → ℕ → ℕ
 placeCase k count = inOrder ((leb count k, NoSuch) ∷ []) 0
 
@@ -207,13 +210,13 @@ placeCase k count = inOrder ((leb count k, NoSuch) ∷ []) 0
 unfoldable pub itemCase : ℕ → ℕ → List ℕ → ℕ
 itemCase w at s = inOrder (under s (at + w) NoSuch ∷ under s (at + w + be w s at) NoSuch ∷ []) 0
 
--- how many of them stand from a place on, `most` a bound for the recursion: "A list inside its announced length ends at the first item that
--- does not fit"
+-- RULES 2.7: how many of them stand from a place on, up to the first that does not fit; `most` is a
+-- bound for the recursion
 unfoldable pub itemCount : ℕ → ℕ → ℕ → List ℕ → ℕ
 itemCount zero w at s = 0
 itemCount (suc most) w at s = pick (eqb (itemCase w at s) 0) (suc (itemCount most w (at + w + be w s at) s)) 0
 
--- the walk at a place: "past the last message it answers NoSuch"
+-- RULES 6.8: the walk at a place, NoSuch past the last message
 unfoldable pub walkCase : ℕ → List ℕ → ℕ
 walkCase at s = pick (eqb (metCase at s) 0) 0 (numberOf NoSuch)
 
@@ -223,8 +226,8 @@ pub data All {A : Type 0} (P : A → Type 0) : List A → Type 0 where
   end : All P []
   _&_ : {x : A} {xs : List A} → P x → All P xs → All P (x ∷ xs)
 
--- a reader, its case, its refusals: whatever is lent, its number is that of the case and it gives no other refusal; and it gives each of
--- them
+-- a reader, its case, its refusals: whatever is lent, its number is that of the case and it gives
+-- no other refusal; and it gives each of them
 pub record Gives {L A : Type 0} (reader : L → Answer A) (case : L → ℕ) (whys : List Reason) : Type 0 where
   pub equal : (lent : L) → numberIn (reader lent) ≡ case lent
   pub only : (lent : L) → OneOf whys (numberIn (reader lent))
@@ -254,7 +257,8 @@ pub record Readers : Type 0 where
   pub ofStatus : Gives (reading status) statusCase (Incomplete ∷ [])
   pub ofNextProtocol : Gives (reading nextProtocol) nextProtocolCase (Incomplete ∷ [])
   pub keyUpdate : Gives (λ s. numberAt 1 s 0) keyUpdateCase (Incomplete ∷ [])
-  -- the same as messages: the ServerHello of either kind, bodies handed out whole; every other is a row of `openedCase`
+  -- the same as messages: the ServerHello of either kind, bodies handed out whole; every other is a
+  -- row of `openedCase`
   pub serverAs : Gives serverMessage serverMessageCase (Incomplete ∷ Verify ∷ Tag ∷ [])
   pub wholeAs : (make : View → TlsMessageHandshake) → GivesTold (wholeBody make) wholeCase (Incomplete ∷ [])
   -- a body by its type, of every type; a message and its head

@@ -1,5 +1,6 @@
 -- The rows of `specs/Readings.antt`, each by running the definition. Assumes nothing.
 use mathlib.Core.Path.{refl}
+use lib.ListN.{drop}
 use Rattle.refusal.specs.Refusals.{refusal, inside}
 use Rattle.wire.specs.Parts.{partAt}
 use Rattle.wire.specs.Numbers.{be, bytesOf, numberAt, numberText}
@@ -19,13 +20,51 @@ use Rattle.record_walk.specs.Walks.{pastAll}
 use Rattle.record_open.specs.Plaintext.{plainRecord, handshakes, openedFirst, plaintext}
 use Rattle.claim_rows.specs.Readings.{rows, ownRows, AllRead}
 
+-- the rows by sevens, the last first
+r21 : AllRead (drop 21 rows)
+unfolding rows messageText headText numberText helloText mayWrite helloBytes join bytesOf message metAt headAt byTypeIn plaintext openedFirst handshakes plainRecord itemsFrom place pastAll byVersion certificateRequest reading read fieldsAt blockAt step ruled numberAt be partAt refusal inside
+r21 =
+    ((refl, refl), ((refl, refl), ((refl, refl), ((refl, refl), ((refl, refl), ((refl, refl), ((refl, refl), tt)))))))
+
+r14 : AllRead (drop 14 rows)
+unfolding rows messageText headText numberText helloText mayWrite helloBytes join bytesOf message metAt headAt byTypeIn plaintext openedFirst handshakes plainRecord itemsFrom place pastAll byVersion certificateRequest reading read fieldsAt blockAt step ruled numberAt be partAt refusal inside
+r14 =
+    ((refl, refl), ((refl, refl), ((refl, refl), ((refl, refl), ((refl, refl), ((refl, refl), ((refl, refl), r21)))))))
+
+r7 : AllRead (drop 7 rows)
+unfolding rows messageText headText numberText helloText mayWrite helloBytes join bytesOf message metAt headAt byTypeIn plaintext openedFirst handshakes plainRecord itemsFrom place pastAll byVersion certificateRequest reading read fieldsAt blockAt step ruled numberAt be partAt refusal inside
+r7 =
+    ((refl, refl), ((refl, refl), ((refl, refl), ((refl, refl), ((refl, refl), ((refl, refl), ((refl, refl), r14)))))))
+
 all-read : AllRead rows
 unfolding rows messageText headText numberText helloText mayWrite helloBytes join bytesOf message metAt headAt byTypeIn plaintext openedFirst handshakes plainRecord itemsFrom place pastAll byVersion certificateRequest reading read fieldsAt blockAt step ruled numberAt be partAt refusal inside
-all-read = ((refl, refl), ((refl, refl), ((refl, refl), ((refl, refl), ((refl, refl), ((refl, refl), ((refl, refl), ((refl, refl), ((refl, refl), ((refl, refl), ((refl, refl), ((refl, refl), ((refl, refl), ((refl, refl), ((refl, refl), ((refl, refl), ((refl, refl), ((refl, refl), ((refl, refl), ((refl, refl), ((refl, refl), ((refl, refl), ((refl, refl), ((refl, refl), ((refl, refl), ((refl, refl), ((refl, refl), ((refl, refl), tt))))))))))))))))))))))))))))
+all-read =
+    ((refl, refl), ((refl, refl), ((refl, refl), ((refl, refl), ((refl, refl), ((refl, refl), ((refl, refl), r7)))))))
+
+o28 : AllRead (drop 28 ownRows)
+unfolding ownRows message metAt headAt byTypeIn serverMessage wholeBody sessionTicket certificateRequest plaintext openedFirst handshakes plainRecord itemsFrom pastAll byVersion reading read fieldsAt blockAt step ruled numberAt be bytesOf partAt refusal inside
+o28 =
+    ((refl, refl), ((refl, refl), ((refl, refl), ((refl, refl), ((refl, refl), tt)))))
+
+o21 : AllRead (drop 21 ownRows)
+unfolding ownRows message metAt headAt byTypeIn serverMessage wholeBody sessionTicket certificateRequest plaintext openedFirst handshakes plainRecord itemsFrom pastAll byVersion reading read fieldsAt blockAt step ruled numberAt be bytesOf partAt refusal inside
+o21 =
+    ((refl, refl), ((refl, refl), ((refl, refl), ((refl, refl), ((refl, refl), ((refl, refl), ((refl, refl), o28)))))))
+
+o14 : AllRead (drop 14 ownRows)
+unfolding ownRows message metAt headAt byTypeIn serverMessage wholeBody sessionTicket certificateRequest plaintext openedFirst handshakes plainRecord itemsFrom pastAll byVersion reading read fieldsAt blockAt step ruled numberAt be bytesOf partAt refusal inside
+o14 =
+    ((refl, refl), ((refl, refl), ((refl, refl), ((refl, refl), ((refl, refl), ((refl, refl), ((refl, refl), o21)))))))
+
+o7 : AllRead (drop 7 ownRows)
+unfolding ownRows message metAt headAt byTypeIn serverMessage wholeBody sessionTicket certificateRequest plaintext openedFirst handshakes plainRecord itemsFrom pastAll byVersion reading read fieldsAt blockAt step ruled numberAt be bytesOf partAt refusal inside
+o7 =
+    ((refl, refl), ((refl, refl), ((refl, refl), ((refl, refl), ((refl, refl), ((refl, refl), ((refl, refl), o14)))))))
 
 all-own : AllRead ownRows
 unfolding ownRows message metAt headAt byTypeIn serverMessage wholeBody sessionTicket certificateRequest plaintext openedFirst handshakes plainRecord itemsFrom pastAll byVersion reading read fieldsAt blockAt step ruled numberAt be bytesOf partAt refusal inside
-all-own = ((refl, refl), ((refl, refl), ((refl, refl), ((refl, refl), ((refl, refl), ((refl, refl), ((refl, refl), ((refl, refl), ((refl, refl), ((refl, refl), ((refl, refl), ((refl, refl), ((refl, refl), ((refl, refl), ((refl, refl), ((refl, refl), ((refl, refl), ((refl, refl), ((refl, refl), ((refl, refl), ((refl, refl), ((refl, refl), ((refl, refl), ((refl, refl), ((refl, refl), ((refl, refl), ((refl, refl), ((refl, refl), ((refl, refl), ((refl, refl), ((refl, refl), ((refl, refl), ((refl, refl), tt)))))))))))))))))))))))))))))))))
+all-own =
+    ((refl, refl), ((refl, refl), ((refl, refl), ((refl, refl), ((refl, refl), ((refl, refl), ((refl, refl), o7)))))))
 
 pub each-row : AllRead rows × AllRead ownRows
 each-row = (all-read, all-own)

@@ -1,6 +1,6 @@
--- Document 01, "Readings to keep on the bench", all eighteen rows in one table; and readings of our own in a second one: a message of each
--- type but 0x00, which row 13 has, a ServerHello of each version, a record of each type. Bytes are written by their number: `03 000001` is
--- `bytesOf 4 0x03_000001`.
+-- The eighteen rows of RULES 8 in one table, and readings of our own in a second one: a message of
+-- each type but 0x00, which row 13 has, a ServerHello of each version, a record of each type. Bytes
+-- are written by their number: `03 000001` is `bytesOf 4 0x03_000001`.
 use Rattle.refusal.specs.{ℕ, _≡_, List, [], _∷_, _++_, Option, none, some, replicate, numberOf, Answer, accepted, then, numberIn, valuesIn, Reason, Incomplete, Complete, Verify, LengthValue, Tag, Switch, TooLarge, Elsewhere, NoSuch}
 use Rattle.wire.specs.{partOf, bytesOf, OptView, Absent, Present, View}
 use Rattle.field.specs.{sized}
@@ -15,8 +15,9 @@ use Rattle.envelope.specs.{message}
 use Rattle.record_walk.specs.{messages}
 use Rattle.record_open.specs.{plaintext}
 
--- a row: its number in the paper, 0 for one of our own; the function, the input, the number of the answer and the values
-pub record BenchRow : Type 1 where
+-- a row: its number in RULES 8, 0 for one of our own; the function, the input, the number of the
+-- answer and the values
+pub record RulesRow : Type 1 where
   pub row : ℕ
   pub Value : Type 0
   pub call : List ℕ → Answer Value
@@ -24,19 +25,21 @@ pub record BenchRow : Type 1 where
   pub number : ℕ
   pub values : Option Value
 
-abbrev pub accept : {A : Type 0} → ℕ → (List ℕ → Answer A) → List ℕ → A → BenchRow
+abbrev pub accept : {A : Type 0} → ℕ → (List ℕ → Answer A) → List ℕ → A → RulesRow
 accept {A} n call s v = record { row = n; Value = A; call = call; input = s; number = 0; values = some v }
 
-abbrev pub reject : {A : Type 0} → ℕ → (List ℕ → Answer A) → List ℕ → Reason → BenchRow
+abbrev pub reject : {A : Type 0} → ℕ → (List ℕ → Answer A) → List ℕ → Reason → RulesRow
 reject {A} n call s why = record { row = n; Value = A; call = call; input = s; number = numberOf why; values = none }
 
--- a function is told by what its contract says: `reading client` is `parse_tls_handshake_client_hello`, `byVersion serverVersions` and
--- `certificateRequest` are those of their bodies, `message` is `parse_tls_message_handshake`, `plaintext` is `parse_tls_plaintext`; and
--- this one hands what is read as a ClientHello to `gen_tls_clienthello`
+-- a function is told by what its contract says: `reading client` is
+-- `parse_tls_handshake_client_hello`, `byVersion serverVersions` and `certificateRequest` are those
+-- of their bodies, `message` is `parse_tls_message_handshake`, `plaintext` is
+-- `parse_tls_plaintext`; and this one hands what is read as a ClientHello to `gen_tls_clienthello`
 abbrev pub writtenBack : List ℕ → Answer (List ℕ)
 writtenBack s = then (reading client s) (λ c. messageText (headText 0x01) (helloText client s c))
 
--- the bytes of each certificate, and of each name of a CertificateRequest: items behind lengths of w bytes
+-- the bytes of each certificate, and of each name of a CertificateRequest: items behind lengths of
+-- w bytes
 abbrev pub itemBytes : ℕ → List ℕ → List (List ℕ)
 itemBytes w s = bytesHanded s (items (sized w) s)
 
@@ -70,8 +73,8 @@ allEmpty ext tail = record { version = 0x0303; random = span 2 32; «session_id�
 abbrev pub requestOf : View → OptView → View → ℕ → TlsCertificateRequestContents
 requestOf types pairs names tail = record { «cert_types» = types; «sig_hash_algs» = pairs; «unparsed_ca» = names; tail = tail }
 
--- document 01's, row 8 also with the length 0002
-unfoldable pub rows : List BenchRow
+-- the rows of RULES 8
+unfoldable pub rows : List RulesRow
 rows =
     reject 1 (reading client) [] Incomplete
     ∷ accept 2 (reading client) (H []) (allEmpty Absent 38)
@@ -103,15 +106,17 @@ rows =
     ∷ reject 18 certificateRequest (bytesOf 2 0x00_00) Complete
     ∷ []
 
--- a ServerHello of a version: Z, no id, cipher 002f, method 00, and extensions of no bytes; and what is handed out of it
+-- a ServerHello of a version: Z, no id, cipher 002f, method 00, and extensions of no bytes; and
+-- what is handed out of it
 abbrev pub S : ℕ → List ℕ
 S version = bytesOf 2 version ++ (replicate 32 0 ++ bytesOf 6 0x00_002f_00_0000)
 
 abbrev pub plainServer : ℕ → OptView → ℕ → TlsServerHelloContents
 plainServer v ext tail = record { version = v; random = span 2 32; «session_id» = Absent; cipher = 0x002f; compression = 0x00; ext = ext; tail = tail }
 
--- our own: an id of exactly 32 and each version; each type, its parts of lengths that differ; each record type
-unfoldable pub ownRows : List BenchRow
+-- our own: an id of exactly 32 and each version; each type, its parts of lengths that differ; each
+-- record type
+unfoldable pub ownRows : List RulesRow
 ownRows =
     accept 0 (reading client) (from0303Z (bytesOf 1 0x20 ++ (replicate 32 0 ++ bytesOf 8 0x0004_002f_0035_01_00)))
     (record { version = 0x0303; random = span 2 32; «session_id» = Present (span 35 32); ciphers = span 69 4; comp = span 74 1; ext = Absent; tail = 75 })
@@ -151,9 +156,9 @@ ownRows =
     ∷ []
 
 -- the claim over a table
-abbrev pub Reads : BenchRow → Type 0
+abbrev pub Reads : RulesRow → Type 0
 Reads x = (numberIn (x .call (x .input)) ≡ x .number) × (valuesIn (x .call (x .input)) ≡ x .values)
 
-abbrev pub AllRead : List BenchRow → Type 0
+abbrev pub AllRead : List RulesRow → Type 0
 AllRead [] = Unit
 AllRead (x ∷ xs) = Reads x × AllRead xs

@@ -1,1 +1,1 @@
-// Document 01's readings: nothing to call. The table and its claim are in `specs`.
+// The rows of RULES 8: nothing to call. The table and its claim are in `specs`.

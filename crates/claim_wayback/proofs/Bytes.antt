@@ -1,5 +1,5 @@
--- Bytes made of bytes: those of a number, of a part, and of one text behind the other; so the text of a hello is of bytes where those lent
--- with the value are. Assumes nothing.
+-- Bytes made of bytes: those of a number, of a part, and of one text behind the other; so the text
+-- of a hello is of bytes where those lent with the value are. Assumes nothing.
 use Prim.Native.Nat.{ℕ, zero, suc, _+_, _/_, _%_}
 use mathlib.Core.List.{List, [], _∷_, _++_}
 use mathlib.Core.Bool.{Bool, true, false}
@@ -62,10 +62,15 @@ pub bytes-field : (f : Field) (p : List ℕ) → Bytes p → Bytes (fieldBytes f
 bytes-field (fixed n) p b = b
 bytes-field (vector w r) p b = bytes-append (bytesOf w (length p)) p (bytes-number w (length p)) b
 
-bytes-rows : (rs : List Row) (s : List ℕ) (os : Outs rs) (z : List ℕ) → Bytes s → Bytes z → Bytes (gather (λ (f, m) o rest. fieldBytes f (named m s o) ++ rest) z rs os)
+bytes-rows : (rs : List Row) (s : List ℕ) (os : Outs rs) (z : List ℕ) → Bytes s → Bytes z
+    → Bytes (gather (λ (f, m) o rest. fieldBytes f (named m s o) ++ rest) z rs os)
 bytes-rows [] s os z b y = y
-bytes-rows ((f, m) ∷ rs) s (o, os) z b y = bytes-append (fieldBytes f (named m s o)) _ (bytes-field f (named m s o) (bytes-named m s o b)) (bytes-rows rs s os z b y)
+bytes-rows ((f, m) ∷ rs) s (o, os) z b y =
+    bytes-append (fieldBytes f (named m s o)) _ (bytes-field f (named m s o) (bytes-named m s o b))
+    (bytes-rows rs s os z b y)
 
 pub hello-bytes : {C : Type 0} (k : Form C) (s : List ℕ) (c : C) → Bytes s → Bytes (helloBytes k s c)
 unfolding helloBytes
-hello-bytes k s c b = bytes-rows (k .grammar .rows) s (k .handed c) _ b (bytes-field extensions (optPartOf s (k .block c)) (bytes-opt s (k .block c) b))
+hello-bytes k s c b =
+    bytes-rows (k .grammar .rows) s (k .handed c) _ b
+    (bytes-field extensions (optPartOf s (k .block c)) (bytes-opt s (k .block c) b))

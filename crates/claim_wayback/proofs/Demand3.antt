@@ -1,4 +1,5 @@
--- Demand 3, its writing half, of the three hellos, instances of the one theorem over every form. Assumes nothing.
+-- Demand 3, its writing half, of the three hellos, instances of the one theorem over every form.
+-- Assumes nothing.
 use Prim.Native.Nat.{ℕ, _<_, _≤_}
 use mathlib.Core.Path.{_≡_, refl, ap, _∙_}
 use mathlib.Core.Bool.{Bool, true, false}
@@ -40,25 +41,31 @@ unfolding helloText mayWrite helloBytes
 one-text hasExt s c = refl
 
 -- and may be by one if it may by the other
-one-obeyed : (hasExt : Bool) (s : List ℕ) (c : TlsServerHelloContents) → Obeyed (server hasExt) s c → Obeyed (server true) s c
+one-obeyed : (hasExt : Bool) (s : List ℕ) (c : TlsServerHelloContents) → Obeyed (server hasExt) s c
+    → Obeyed (server true) s c
 one-obeyed hasExt s c o = record { fields = o .fields; last = o .last }
 
-one-length : (hasExt : Bool) (s : List ℕ) (c : TlsServerHelloContents) → length (helloBytes (server hasExt) s c) ≡ length (helloBytes (server true) s c)
+one-length : (hasExt : Bool) (s : List ℕ) (c : TlsServerHelloContents)
+    → length (helloBytes (server hasExt) s c) ≡ length (helloBytes (server true) s c)
 unfolding helloBytes
 one-length hasExt s c = refl
 
 -- a hello begins with its version
-server-version : (s : List ℕ) (c : TlsServerHelloContents) → c .version < 65536 → be 2 (helloBytes (server true) s c) 0 ≡ c .version
+server-version : (s : List ℕ) (c : TlsServerHelloContents) → c .version < 65536
+    → be 2 (helloBytes (server true) s c) 0 ≡ c .version
 unfolding helloBytes
 server-version s c h = be-of 2 (c .version) _ h
 
-pub draft18-version : (s : List ℕ) (c : TlsServerHelloV13Draft18Contents) → c .version < 65536 → be 2 (helloBytes draft18 s c) 0 ≡ c .version
+pub draft18-version : (s : List ℕ) (c : TlsServerHelloV13Draft18Contents) → c .version < 65536
+    → be 2 (helloBytes draft18 s c) 0 ≡ c .version
 unfolding helloBytes
 draft18-version s c h = be-of 2 (c .version) _ h
 
 -- a ServerHello that was read was read by one of its two forms
 chosen : (a b d e : Bool) (body : List ℕ) (c : TlsServerHelloContents)
-    → ifListed (pick a (some (server true)) (pick b (some (server true)) (pick d (some (server true)) (pick e (some (server false)) none)))) body ≡ accepted c
+    → ifListed (pick a (some (server true))
+    (pick b (some (server true))
+    (pick d (some (server true)) (pick e (some (server false)) none)))) body ≡ accepted c
     → (hasExt : Bool) × (reading (server hasExt) body ≡ accepted c)
 chosen true b d e body c x = (true, x)
 chosen false true d e body c x = (true, x)
@@ -66,25 +73,32 @@ chosen false false true e body c x = (true, x)
 chosen false false false true body c x = (false, x)
 chosen false false false false body c x = absurd (not-both x refl)
 
-announced : (body : List ℕ) (c : TlsServerHelloContents) → byVersion serverVersions body ≡ accepted c → (hasExt : Bool) × (reading (server hasExt) body ≡ accepted c)
+announced : (body : List ℕ) (c : TlsServerHelloContents) → byVersion serverVersions body ≡ accepted c
+    → (hasExt : Bool) × (reading (server hasExt) body ≡ accepted c)
 unfolding byVersion
 announced body c e =
     let t = then-accepted (numberAt 2 body 0) (λ v. ifListed (lookup (v .value) serverVersions) body) e in
     let n = t .0 .value in
     chosen (eqb n 0x0303) (eqb n 0x0302) (eqb n 0x0301) (eqb n 0x0300) body c (t .2)
 
--- a hello that was read, written back; document 01: "A ClientHello that was read has at most 131,396 bytes before its tail". A ServerHello
--- has at most 2 + 32 + 33 + 2 + 1 + 2 + 65,535, one of draft 18 2 + 32 + 2 + 2 + 65,535
+-- a hello that was read, written back. RULES 7.9: a ClientHello has at most 131,396 bytes before
+-- its tail. A ServerHello has at most 2 + 32 + 33 + 2 + 1 + 2 + 65,535, one of draft 18 2 + 32 + 2
+-- + 2 + 65,535
 pub writes-client : (body : List ℕ) → Bytes body → WritesBack client 0x01 131396 body
-writes-client body bytes = writes-back client client-lawful refl 0x01 131396 (omega arith) body bytes (λ c o. omega (arith, client-length body c o, client-bounds body c o))
+writes-client body bytes =
+    writes-back client client-lawful refl 0x01 131396 (omega arith) body bytes
+    (λ c o. omega (arith, client-length body c o, client-bounds body c o))
 
 pub writes-server : (hasExt : Bool) (body : List ℕ) → Bytes body → WritesBack (server hasExt) 0x02 65607 body
-writes-server hasExt body bytes = writes-back (server hasExt) (server-lawful hasExt) (server-block hasExt) 0x02 65607 (omega arith) body bytes (λ c o.
+writes-server hasExt body bytes =
+    writes-back (server hasExt) (server-lawful hasExt) (server-block hasExt) 0x02 65607 (omega arith) body bytes (λ c o.
     let p = one-obeyed hasExt body c o in
     omega (arith, one-length hasExt body c, server-length body c p, server-bounds body c p))
 
 pub writes-draft18 : (body : List ℕ) → Bytes body → WritesBack draft18 0x02 65573 body
-writes-draft18 body bytes = writes-back draft18 draft18-lawful refl 0x02 65573 (omega arith) body bytes (λ c o. omega (arith, draft18-length body c o, draft18-bounds body c o))
+writes-draft18 body bytes =
+    writes-back draft18 draft18-lawful refl 0x02 65573 (omega arith) body bytes
+    (λ c o. omega (arith, draft18-length body c o, draft18-bounds body c o))
 
 pub writes-by-version : (body : List ℕ) → Bytes body → BackByVersion body
 writes-by-version body bytes c e =
@@ -95,7 +109,8 @@ writes-by-version body bytes c e =
 pub again-client : (s : List ℕ) → Bytes s → (c : TlsClientHelloContents) → ReadsAgain client s c
 again-client = reads-again client client-lawful refl
 
-pub again-server : (hasExt : Bool) (s : List ℕ) → Bytes s → (c : TlsServerHelloContents) → ReadsAgain (server hasExt) s c
+pub again-server : (hasExt : Bool) (s : List ℕ) → Bytes s → (c : TlsServerHelloContents)
+    → ReadsAgain (server hasExt) s c
 again-server hasExt = reads-again (server hasExt) (server-lawful hasExt) (server-block hasExt)
 
 pub again-draft18 : (s : List ℕ) → Bytes s → (c : TlsServerHelloV13Draft18Contents) → ReadsAgain draft18 s c

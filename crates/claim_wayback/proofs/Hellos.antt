@@ -1,5 +1,6 @@
--- Demand 3, its writing half, over every lawful form whose last block is that of a hello: a hello that was read may be written, and its
--- text is the bytes before its tail; and the text of a hello is read. Assumes nothing.
+-- Demand 3, its writing half, over every lawful form whose last block is that of a hello: a hello
+-- that was read may be written, and its text is the bytes before its tail; and the text of a hello
+-- is read. Assumes nothing.
 use Prim.Native.Nat.{ℕ, _+_, _-_, _<_, _≤_}
 use mathlib.Core.Path.{_≡_, refl, sym, ap, _∙_}
 use mathlib.Core.List.{List, [], _∷_, _++_, append-assoc, append-nil}
@@ -47,21 +48,25 @@ ends : (vs : List View) (from tail : ℕ) → InRow from vs tail → from ≤ ta
 ends [] from tail r = r
 ends (v ∷ vs) from tail (h, r) = omega (arith, ends vs (v .start + v .len) tail r)
 
-view-lies : (s : List ℕ) (v : View) (vs : List View) (tail : ℕ) → tail ≤ length s → InRow (v .start + v .len) vs tail → liesIn s v ≡ true
+view-lies : (s : List ℕ) (v : View) (vs : List View) (tail : ℕ) → tail ≤ length s → InRow (v .start + v .len) vs tail
+    → liesIn s v ≡ true
 view-lies s v vs tail h r = le-leb (v .start + v .len) (length s) (omega (arith, ends vs (v .start + v .len) tail r))
 
 -- what was handed out of a field lies within the bytes, and the views after it are in a row
-seen-lies : (m : How) (s : List ℕ) (o : Out m) (vs : List View) (from tail : ℕ) → tail ≤ length s → InRow from (seen m o vs) tail → (lies m s o ≡ true) × ((n : ℕ) × InRow n vs tail)
+seen-lies : (m : How) (s : List ℕ) (o : Out m) (vs : List View) (from tail : ℕ) → tail ≤ length s
+    → InRow from (seen m o vs) tail → (lies m s o ≡ true) × ((n : ℕ) × InRow n vs tail)
 seen-lies asView s v vs from tail h (_, r) = (view-lies s v vs tail h r, (v .start + v .len, r))
 seen-lies (asOpt empty) s Absent vs from tail h r = (refl, (from, r))
 seen-lies (asOpt empty) s (Present v) vs from tail h (_, r) = (view-lies s v vs tail h r, (v .start + v .len, r))
 seen-lies (asNumber w) s n vs from tail h r = (refl, (from, r))
 
 -- so it may stand in its field
-may : (f : Field) (m : How) (s : List ℕ) (o : Out m) → lies m s o ≡ true → Obeys f (named m s o) → mayStand f m s o ≡ true
+may : (f : Field) (m : How) (s : List ℕ) (o : Out m) → lies m s o ≡ true → Obeys f (named m s o)
+    → mayStand f m s o ≡ true
 may f m s o l p = rw l (fields.obeyed f (named m s o) p)
 
-all-may : (rs : List Row) (s : List ℕ) (os : Outs rs) (z : Bool) (vs : List View) (from tail : ℕ) → tail ≤ length s → AllObey rs (allNamed rs s os) → InRow from (allSeen rs os vs) tail
+all-may : (rs : List Row) (s : List ℕ) (os : Outs rs) (z : Bool) (vs : List View) (from tail : ℕ) → tail ≤ length s
+    → AllObey rs (allNamed rs s os) → InRow from (allSeen rs os vs) tail
     → (gather (λ (f, m) o rest. mayStand f m s o && rest) z rs os ≡ z) × ((n : ℕ) × InRow n vs tail)
 all-may [] s os z vs from tail h p r = (refl, (from, r))
 all-may ((f, m) ∷ rs) s (o, os) z vs from tail h (p, ps) r =
@@ -70,7 +75,8 @@ all-may ((f, m) ∷ rs) s (o, os) z vs from tail h (p, ps) r =
     (rw (may f m s o (l .0) p) (i .0), i .1)
 
 -- the block that was found is one of extensions, and an absent one is written as 00 00
-last-obeys : (b : Option Field) → OfHello b → (s : List ℕ) (e : OptView) (t : List ℕ) → BlockObeys b (blockOf s e) t → Obeys extensions (optPartOf s e)
+last-obeys : (b : Option Field) → OfHello b → (s : List ℕ) (e : OptView) (t : List ℕ) → BlockObeys b (blockOf s e) t
+    → Obeys extensions (optPartOf s e)
 last-obeys b h s Absent t o = (omega arith, refl)
 last-obeys none h s (Present v) t o = absurd o
 last-obeys (some f) h s (Present v) t o = rw h at o
@@ -87,19 +93,23 @@ last-bytes (some f) h s (Present v) t o = rw (h, append-nil)
 before : (s xs ys : List ℕ) (n : ℕ) → n ≤ length s → s ≡ xs ++ (ys ++ drop n s) → take n s ≡ xs ++ ys
 before s xs ys n h e =
     let l : length s ≡ length (xs ++ ys) + length (drop n s) = ap length e ∙ simp length-append (omega arith) in
-    ap (take n) (e ∙ sym (append-assoc xs ys (drop n s))) ∙ take-at (xs ++ ys) (drop n s) n (omega (arith, length-drop n s))
+    ap (take n) (e ∙ sym (append-assoc xs ys (drop n s)))
+    ∙ take-at (xs ++ ys) (drop n s) n (omega (arith, length-drop n s))
 
 -- a hello that was read, and may be written
-module _ {C : Type 0} (k : Form C) (law : Lawful k) (ofHello : OfHello (k .grammar .block)) (body : List ℕ) (bytes : Bytes body) (c : C) (e : reading k body ≡ accepted c) where
+module _ {C : Type 0} (k : Form C) (law : Lawful k) (ofHello : OfHello (k .grammar .block)) (body : List ℕ)
+    (bytes : Bytes body) (c : C) (e : reading k body ≡ accepted c) where
   may-write : mayWrite k body c ≡ true
   unfolding mayWrite
   may-write =
       let t = by-split k law body bytes in
       let y = t .splits c e in
       let r = t .order c e in
-      let f = all-may (k .grammar .rows) body (k .handed c) (mayStand extensions (asOpt false) body (k .block c)) (ifThere (k .block c) []) 0 (k .tail c) (r .1) (y .obey) (r .0) in
+      let f = all-may (k .grammar .rows) body (k .handed c) (mayStand extensions (asOpt false) body (k .block c))
+      (ifThere (k .block c) []) 0 (k .tail c) (r .1) (y .obey) (r .0) in
       let l = seen-lies (asOpt false) body (k .block c) [] (f .1 .0) (k .tail c) (r .1) (f .1 .1) in
-      f .0 ∙ may extensions (asOpt false) body (k .block c) (l .0) (last-obeys (k .grammar .block) ofHello body (k .block c) _ (y .last))
+      f .0 ∙ may extensions (asOpt false) body (k .block c) (l .0)
+      (last-obeys (k .grammar .block) ofHello body (k .block c) _ (y .last))
 
   -- its bytes are those before the tail, and then 00 00 if there were no extensions
   hello-back : helloBytes k body c ≡ back k body c
@@ -109,15 +119,21 @@ module _ {C : Type 0} (k : Form C) (law : Lawful k) (ofHello : OfHello (k .gramm
       let j = join (k .grammar .rows) (allNamed (k .grammar .rows) body (k .handed c)) in
       let x = blockBytes (k .grammar .block) (blockOf body (k .block c)) in
       hello-joined k body c
-      ∙ rw (last-bytes (k .grammar .block) ofHello body (k .block c) _ (y .last), before body j x (k .tail c) (t .order c e .1) (y .whole)) (sym (append-assoc j x (added (k .block c))))
+      ∙ rw (
+        last-bytes (k .grammar .block) ofHello body (k .block c) _ (y .last),
+        before body j x (k .tail c) (t .order c e .1) (y .whole),
+      ) (sym (append-assoc j x (added (k .block c))))
 
   hello-length : length (helloBytes k body c) ≡ k .tail c + length (added (k .block c))
-  hello-length = rw (hello-back, length-append, length-take-le (k .tail c) body (by-split k law body bytes .order c e .1))
+  hello-length =
+      rw (hello-back, length-append, length-take-le (k .tail c) body (by-split k law body bytes .order c e .1))
 
-  text-back : (msgType : ℕ) → length (helloBytes k body c) < 16777216 → messageText (headText msgType) (helloText k body c) ≡ accepted (framed msgType (back k body c))
+  text-back : (msgType : ℕ) → length (helloBytes k body c) < 16777216
+      → messageText (headText msgType) (helloText k body c) ≡ accepted (framed msgType (back k body c))
   text-back msgType h =
       let b = helloBytes k body c in
-      message-is (headText msgType) (headBytes msgType (length b)) b (head-is msgType (length b) h) (hello-may k body c may-write)
+      message-is (headText msgType) (headBytes msgType (length b)) b (head-is msgType (length b) h)
+      (hello-may k body c may-write)
       ∙ rw (append-assoc (bytesOf 1 msgType) (bytesOf 3 (length b)) b, hello-back)
 
   framed-length : (msgType : ℕ) → length (framed msgType (back k body c)) ≡ 4 + length (helloBytes k body c)
@@ -131,14 +147,16 @@ every-text = record {
       let z : 0 + length t ≡ length t = zero-add (length t) in
       let w = text-in t 0 out refl (room-in out 0 (length t) (omega arith)) in
       (rw z at (w .says), rw z at (w .leaves));
-  enough = λ t out most h r. text-in t 0 out refl (room-in out 0 (length t) (omega arith)) .says ∙ ap accepted (zero-add (length t));
+  enough = λ t out most h r. text-in t 0 out refl (room-in out 0 (length t) (omega arith)) .says
+      ∙ ap accepted (zero-add (length t));
   short = λ t out h.
       let w = text-out t 0 out refl (room-out out 0 (length t) (omega arith)) in
       (w .says, w .leaves);
 }
 
 -- demand 3, its writing half, where every hello that may be written has at most so many bytes
-pub writes-back : {C : Type 0} (k : Form C) → Lawful k → OfHello (k .grammar .block) → (msgType most : ℕ) → most < 16777216 → (body : List ℕ) → Bytes body
+pub writes-back : {C : Type 0} (k : Form C) → Lawful k → OfHello (k .grammar .block) → (msgType most : ℕ)
+    → most < 16777216 → (body : List ℕ) → Bytes body
     → ((c : C) → Obeyed k body c → length (helloBytes k body c) ≤ most) → WritesBack k msgType most body
 writes-back {C} k law ofHello msgType most h body bytes bound =
     record {
@@ -150,20 +168,24 @@ writes-back {C} k law ofHello msgType most h body bytes bound =
     fits : (c : C) → reading k body ≡ accepted c → length (helloBytes k body c) ≤ most
     fits c e = bound c (obeyed k body c (may-write k law ofHello body bytes c e))
 
-    text : (c : C) → reading k body ≡ accepted c → messageText (headText msgType) (helloText k body c) ≡ accepted (framed msgType (back k body c))
+    text : (c : C) → reading k body ≡ accepted c
+        → messageText (headText msgType) (helloText k body c) ≡ accepted (framed msgType (back k body c))
     text c e = text-back k law ofHello body bytes c e msgType (omega (arith, fits c e))
 
 -- a second reading takes the extensions for the block, or where there is none for the tail
-obeys-again : (b : Option Field) → OfHello b → (e : List ℕ) → Obeys extensions e → BlockObeys b (lastAgain b e .0) (lastAgain b e .1)
+obeys-again : (b : Option Field) → OfHello b → (e : List ℕ) → Obeys extensions e
+    → BlockObeys b (lastAgain b e .0) (lastAgain b e .1)
 obeys-again none h e o = tt
 obeys-again (some f) h e o = rw h o
 
-last-again : (b : Option Field) → OfHello b → (e : List ℕ) → fieldBytes extensions e ≡ blockBytes b (lastAgain b e .0) ++ lastAgain b e .1
+last-again : (b : Option Field) → OfHello b → (e : List ℕ)
+    → fieldBytes extensions e ≡ blockBytes b (lastAgain b e .0) ++ lastAgain b e .1
 last-again none h e = refl
 last-again (some f) h e = rw (h, append-nil)
 
 -- and what is read of what was written
-pub reads-again : {C : Type 0} (k : Form C) → Lawful k → OfHello (k .grammar .block) → (s : List ℕ) → Bytes s → (c : C) → ReadsAgain k s c
+pub reads-again : {C : Type 0} (k : Form C) → Lawful k → OfHello (k .grammar .block) → (s : List ℕ) → Bytes s
+    → (c : C) → ReadsAgain k s c
 reads-again k law ofHello s bytes c b e =
     let w = hello-wrote k s c e in
     let j = join (k .grammar .rows) (allNamed (k .grammar .rows) s (k .handed c)) in

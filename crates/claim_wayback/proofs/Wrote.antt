@@ -21,11 +21,13 @@ use Rattle.write_rules.proofs.Hellos.{Obeyed, obeyed}
 use Rattle.write_rules.proofs.Messages.{same-text}
 
 -- the bytes, by a test
-pub picked : {A : Type 0} (t : Bool) {a b : A} (r : Refusal) → pick t (accepted a) (refused r) ≡ accepted b → (t ≡ true) × (a ≡ b)
+pub picked : {A : Type 0} (t : Bool) {a b : A} (r : Refusal) → pick t (accepted a) (refused r) ≡ accepted b
+    → (t ≡ true) × (a ≡ b)
 picked true {a} {b} r e = let d : accepted a ≡ accepted b = e in (refl, cc)
 picked false r e = absurd (not-both e refl)
 
-pub hello-wrote : {C : Type 0} (k : Form C) (s : List ℕ) (c : C) {b : List ℕ} → helloText k s c ≡ accepted b → Obeyed k s c × (helloBytes k s c ≡ b)
+pub hello-wrote : {C : Type 0} (k : Form C) (s : List ℕ) (c : C) {b : List ℕ} → helloText k s c ≡ accepted b
+    → Obeyed k s c × (helloBytes k s c ≡ b)
 unfolding helloText
 hello-wrote k s c e = let q = picked (mayWrite k s c) _ e in (obeyed k s c (q .0), q .1)
 
@@ -44,9 +46,11 @@ pub record Body (msgType : ℕ) (body : Answer (List ℕ)) (t : List ℕ) : Type
   pub obeys : Obeys (sized 3) bytes
   pub whole : bytesOf 1 msgType ++ fieldBytes (sized 3) bytes ≡ t
 
-pub message-wrote : (msgType : ℕ) (body : Answer (List ℕ)) {t : List ℕ} → messageText (headText msgType) body ≡ accepted t → Body msgType body t
+pub message-wrote : (msgType : ℕ) (body : Answer (List ℕ)) {t : List ℕ}
+    → messageText (headText msgType) body ≡ accepted t → Body msgType body t
 message-wrote msgType body {t} e =
-    let u = then-accepted body (λ b. then (fieldText (sized 3) b) (λ x. accepted (bytesOf 1 msgType ++ x))) (sym (same-text msgType body) ∙ e) in
+    let u = then-accepted body (λ b. then (fieldText (sized 3) b) (λ x. accepted (bytesOf 1 msgType ++ x)))
+    (sym (same-text msgType body) ∙ e) in
     let w = then-accepted (fieldText (sized 3) (u .0)) (λ x. accepted (bytesOf 1 msgType ++ x)) (u .2) in
     let f = field-wrote (sized 3) (u .0) (w .1) in
     let d : bytesOf 1 msgType ++ w .0 ≡ t = cc (w .2) in

@@ -1,5 +1,7 @@
--- Demand 3, its writing half: what is written of a hello that was read, and what reading finds of hellos, messages and records that were
--- written, whatever stands behind them. Shown by `proofs/Hellos.antt` for every form, `proofs/Demand3.antt` and `proofs/WayBack.antt`.
+-- Demand 3, its writing half: what is written of a hello that was read, and what reading finds of
+-- hellos, messages and records that were written, whatever stands behind them. RULES 0.3, 7.6, 7.9,
+-- 9.11. Shown by `proofs/Hellos.antt` for every form, `proofs/Demand3.antt` and
+-- `proofs/WayBack.antt`.
 use Rattle.refusal.specs.{ℕ, _+_, _<_, _≤_, _≡_, List, [], _∷_, _++_, Bool, true, Option, none, some, length, take, drop, unplaced, Answer, accepted, refused, giving, NoRoom}
 use Rattle.wire.specs.{partOf, optPartOf, lookup, Bytes, bytesOf, room, written, OptView, Absent, Present, View}
 use Rattle.field.specs.{Field, fieldBytes}
@@ -16,7 +18,8 @@ use Rattle.write_record.specs.RecordTexts.{recordText}
 
 -- any text, written from the front of any output
 pub record EveryText : Type 0 where
-  -- with room for it, its bytes are the first of the output, all others are as they were, and the answer is their number
+  -- with room for it, its bytes are the first of the output, all others are as they were, and the
+  -- answer is their number
   pub writes : (t out : List ℕ) → length t ≤ length out → (room (accepted t) 0 out ≡ accepted (length t)) × (written (accepted t) 0 out ≡ t ++ drop (length t) out)
   -- so an output as long as the longest of some texts is enough for each of them
   pub enough : (t out : List ℕ) (most : ℕ) → length t ≤ most → most ≤ length out → room (accepted t) 0 out ≡ accepted (length t)
@@ -27,7 +30,7 @@ pub record EveryText : Type 0 where
 abbrev pub framed : ℕ → List ℕ → List ℕ
 framed msgType b = bytesOf 1 msgType ++ (bytesOf 3 (length b) ++ b)
 
--- document 01: "absent extensions write 00 00"
+-- RULES 7.6: absent extensions are written 00 00
 abbrev pub added : OptView → List ℕ
 added Absent = 0x00 ∷ 0x00 ∷ []
 added (Present v) = []
@@ -42,7 +45,8 @@ pub record WritesBack {C : Type 0} (k : Form C) (msgType most : ℕ) (body : Lis
   pub bound : (c : C) → reading k body ≡ accepted c → k .tail c ≤ most
   -- its text: type and length, then the bytes of the body before its tail, and what is added
   pub text : (c : C) → reading k body ≡ accepted c → messageText (headText msgType) (helloText k body c) ≡ accepted (framed msgType (back k body c))
-  -- what is added included, the text has at most four bytes more than the bound: an output of so many is enough
+  -- what is added included, the text has at most four bytes more than the bound: an output of so
+  -- many is enough
   pub longest : (c : C) → reading k body ≡ accepted c → length (framed msgType (back k body c)) ≤ 4 + most
 
 -- the text of a ServerHello that was read by the form that its version announces
@@ -54,23 +58,26 @@ BackByVersion body = (c : TlsServerHelloContents) → byVersion serverVersions b
 abbrev pub OneText : Type 0
 OneText = (hasExt : Bool) (s : List ℕ) (c : TlsServerHelloContents) → helloText (server hasExt) s c ≡ helloText (server true) s c
 
--- what a second reading finds of the extensions: block and tail. A form with a block has them there, empty if they were absent; one without
--- (a ServerHello at 0x0300) has their bytes as tail
+-- what a second reading finds of the extensions: block and tail. A form with a block has them
+-- there, empty if they were absent; one without (a ServerHello at 0x0300) has their bytes as tail
 abbrev pub lastAgain : Option Field → List ℕ → Option (List ℕ) × List ℕ
 lastAgain (some f) e = (some e, [])
 lastAgain none e = (none, fieldBytes extensions e)
 
--- the pieces that a second reading finds: the parts that the value names, then block and tail by `lastAgain`
+-- the pieces that a second reading finds: the parts that the value names, then block and tail by
+-- `lastAgain`
 abbrev pub again : {C : Type 0} (k : Form C) → List ℕ → C → Pieces (k .grammar)
 again k s c =
     let last = lastAgain (k .grammar .block) (optPartOf s (k .block c)) in
     record { parts = allNamed (k .grammar .rows) s (k .handed c); block = last .0; tail = last .1 }
 
--- of any value, read before or made up, whose text is b: b is read, and its pieces are those of the value, but for block and tail
+-- of any value, read before or made up, whose text is b: b is read, and its pieces are those of the
+-- value, but for block and tail
 abbrev pub ReadsAgain : {C : Type 0} → Form C → List ℕ → C → Type 0
 ReadsAgain {C} k s c = (b : List ℕ) → helloText k s c ≡ accepted b → (d : C) × (reading k b ≡ accepted d) × (pieces k b d ≡ again k s c)
 
--- the version that was written announces by which form a ServerHello is read; if it is not listed, that is Tag
+-- the version that was written announces by which form a ServerHello is read; if it is not listed,
+-- that is Tag
 abbrev pub AgainByVersion : Type 0
 AgainByVersion = (s : List ℕ) (c : TlsServerHelloContents) (b : List ℕ) → c .version < 65536 → helloText (server true) s c ≡ accepted b → byVersion serverVersions b ≡ ifListed (lookup (c .version) serverVersions) b
 
@@ -86,7 +93,8 @@ pub record Found (msgType : ℕ) (body : List ℕ) (says : Answer TlsMessageHand
   -- its body has the bytes written
   pub bytes : partOf (text ++ rest) (record { start = 4; len = length body }) ≡ body
 
--- a hello, in its text and whatever stands behind that: the pieces of its body are those of the value written, as `again` has them
+-- a hello, in its text and whatever stands behind that: the pieces of its body are those of the
+-- value written, as `again` has them
 pub record ReadsHello {C : Type 0} (k : Form C) (msgType : ℕ) (make : C → TlsMessageHandshake) (s : List ℕ) (c : C) (text rest : List ℕ) : Type 0 where
   pub body : List ℕ
   pub found : C
@@ -138,5 +146,5 @@ pub record WayBack : Type 0 where
   pub messages : (s rest : List ℕ) → Bytes s → Messages s rest
   -- the view of a whole body names its bytes
   pub all : (b : List ℕ) → partOf b (wholeOf b) ≡ b
-  -- "It copies the type, the version and the lent bytes"
+  -- RULES 7.11: it copies type, version and content
   pub records : (hdr : TlsRecordHeader) (p t rest : List ℕ) → hdr .«record_type» < 256 → hdr .version < 65536 → Bytes p → Bytes rest → recordText hdr p ≡ accepted t → InRecord hdr p t rest

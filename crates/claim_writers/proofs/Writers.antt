@@ -1,6 +1,7 @@
 -- Each writer's case, from the definition of its text. Assumes nothing.
 use Prim.Native.Nat.{ℕ, _+_, _%_, _^_, _<_, _≤_}
 use mathlib.Core.Path.{_≡_, refl, sym, ap, _∙_}
+use mathlib.Core.Option.{none}
 use mathlib.Core.List.{List, [], _∷_, _++_, append-nil}
 use mathlib.Core.Bool.{Bool, true, false, _&&_, and-true}
 use mathlib.Core.Logic.{inl, inr}
@@ -12,7 +13,8 @@ use lib.Dec.{leb, ltb, eqb, leb·suc-suc}
 use Rattle.refusal.specs.Refusals.{numberOf, OneOf, refusal, unplaced}
 use Rattle.refusal.specs.Answers.{Answer, accepted, refused, then, numberIn}
 use Rattle.refusal.specs.declared.Reason.{Reason}
-use Rattle.refusal.specs.declared.Reason.the-variants.{Verify, LengthValue, TooLarge, BadLength, NoRoom, NotYetImplemented}
+use Rattle.refusal.specs.declared.Reason.the-variants.{Verify, LengthValue, TooLarge, BadLength, NoRoom}
+use Rattle.refusal.specs.declared.Reason.the-variants.{NotYetImplemented}
 use Rattle.refusal.specs.declared.Refusal.{Refusal}
 use Rattle.refusal.proofs.Told.{unplaced-reason}
 use Rattle.wire.specs.Parts.{pick, partOf, optPartOf}
@@ -54,54 +56,78 @@ use Rattle.write_draft18.proofs.Lengths.{draft18-length, draft18-bounds}
 use Rattle.message.specs.declared.keyexchange.TlsClientKeyExchangeContents.{TlsClientKeyExchangeContents}
 use Rattle.message.specs.declared.keyexchange.TlsClientKeyExchangeContents.the-variants.{Dh, Ecdh, Unknown}
 use Rattle.message.specs.declared.handshake.TlsMessageHandshake.{TlsMessageHandshake}
-use Rattle.message.specs.declared.handshake.TlsMessageHandshake.the-variants.{HelloRequest, ClientHello, ServerHello, ServerHelloV13Draft18, NewSessionTicket, EndOfEarlyData, HelloRetryRequest, Certificate, ServerKeyExchange, CertificateRequest, ServerDone, CertificateVerify, ClientKeyExchange, Finished, CertificateStatus, NextProtocol, KeyUpdate}
+use Rattle.message.specs.declared.handshake.TlsMessageHandshake.the-variants.{HelloRequest, ClientHello, ServerHello}
+use Rattle.message.specs.declared.handshake.TlsMessageHandshake.the-variants.{ServerHelloV13Draft18, NewSessionTicket}
+use Rattle.message.specs.declared.handshake.TlsMessageHandshake.the-variants.{EndOfEarlyData, HelloRetryRequest}
+use Rattle.message.specs.declared.handshake.TlsMessageHandshake.the-variants.{Certificate, ServerKeyExchange}
+use Rattle.message.specs.declared.handshake.TlsMessageHandshake.the-variants.{CertificateRequest, ServerDone}
+use Rattle.message.specs.declared.handshake.TlsMessageHandshake.the-variants.{CertificateVerify, ClientKeyExchange}
+use Rattle.message.specs.declared.handshake.TlsMessageHandshake.the-variants.{Finished, CertificateStatus}
+use Rattle.message.specs.declared.handshake.TlsMessageHandshake.the-variants.{NextProtocol, KeyUpdate}
 use Rattle.write_others.specs.Exchange.{exchangeText}
 use Rattle.write_others.proofs.Parts.{view-message, view-refused, sized-message, sized-refused}
-use Rattle.write_message.specs.Written.{notWritten, handshakeText}
+use Rattle.message.specs.Messages.{WrittenBody, noBody, clientBody, serverBody, draft18Body, exchangeBody}
+use Rattle.message.specs.Messages.{finishedBody, bodyWritten, notWritten}
+use Rattle.message.proofs.Written.{messageOf, by-written}
+use Rattle.write_message.specs.Written.{handshakeText}
 use Rattle.grammar.specs.Splits.{join}
 use Rattle.record.specs.declared.TlsRecordHeader.{TlsRecordHeader}
 use Rattle.write_record.specs.RecordTexts.{recordBytes, recordText}
 use Rattle.c_hear.specs.Heard.{heard}
 use Rattle.c_hear.proofs.Heard.{each-heard}
-use Rattle.claim_writers.specs.Writers.{Case, comesTo, refusing, upTo, whereFits, lent, optLent, optLen, randomFits, idFits, ciphersFit, extensionsFit, partFits, clientWrite, serverWrite, draft18Write, exchangeWrite, finishedWrite, requestWrite, handshakeWrite, recordWrite, wide, most, ruleFits, ruleSays, fieldWrite, Comes, Writers}
+use Rattle.claim_writers.specs.Writers.{Case, comesTo, refusing, upTo, whereFits, withinBytes, optWithin, optLen}
+use Rattle.claim_writers.specs.Writers.{randomFits, idFits, ciphersFit, extensionsFit, partFits, clientWrite}
+use Rattle.claim_writers.specs.Writers.{serverWrite, draft18Write, exchangeWrite, finishedWrite, requestWrite}
+use Rattle.claim_writers.specs.Writers.{handshakeWrite, recordWrite, wide, most, ruleFits, ruleRefuses}
+use Rattle.claim_writers.specs.Writers.{fieldWrite}
+use Rattle.claim_writers.specs.Writers.{Comes, Writers}
 
 -- what a case comes to, with its refusals; and with one more
-comes : {t : Answer (List ℕ)} {at : ℕ} {out : List ℕ} {c : Case} {whys : List Reason} → comesTo (room t at out) ≡ c → OneOf whys (c .number) → Comes t at out c whys
+comes : {t : Answer (List ℕ)} {at : ℕ} {out : List ℕ} {c : Case} {whys : List Reason} → comesTo (room t at out) ≡ c
+    → OneOf whys (c .number) → Comes t at out c whys
 comes e h = record { is = e; only = rw (ap (λ (x : Case). x .number) e) h }
 
-wider : {t : Answer (List ℕ)} {at : ℕ} {out : List ℕ} {c : Case} {whys : List Reason} (why : Reason) → Comes t at out c whys → Comes t at out c (why ∷ whys)
+wider : {t : Answer (List ℕ)} {at : ℕ} {out : List ℕ} {c : Case} {whys : List Reason} (why : Reason)
+    → Comes t at out c whys → Comes t at out c (why ∷ whys)
 wider why h = record { is = h .is; only = inr (h .only) }
 
 -- a text that is refused
-case-no : {t : Answer (List ℕ)} {at : ℕ} {out : List ℕ} (why : Reason) (whys : List Reason) → room t at out ≡ refused (unplaced why) → Comes t at out (refusing why) (why ∷ whys)
+case-no : {t : Answer (List ℕ)} {at : ℕ} {out : List ℕ} (why : Reason) (whys : List Reason)
+    → room t at out ≡ refused (unplaced why) → Comes t at out (refusing why) (why ∷ whys)
 case-no why whys e = comes (ap comesTo e ∙ ap (λ (r : Reason). refusing r) (unplaced-reason why)) (inl refl)
 
 -- one of n bytes, by whether it ends within the output
-case-yes : {t : Answer (List ℕ)} (bs : List ℕ) (at n : ℕ) (out : List ℕ) → t ≡ accepted bs → length bs ≡ n → Comes t at out (upTo (at + n) out) (NoRoom ∷ [])
+case-yes : {t : Answer (List ℕ)} (bs : List ℕ) (at n : ℕ) (out : List ℕ) → t ≡ accepted bs → length bs ≡ n
+    → Comes t at out (upTo (at + n) out) (NoRoom ∷ [])
 case-yes {t} bs at n out e l = rw (← l) (go (leb (at + length bs) (length out)) refl)
   where
     go : (b : Bool) → leb (at + length bs) (length out) ≡ b → Comes t at out (upTo (at + length bs) out) (NoRoom ∷ [])
-    go true q = rw q (comes (ap comesTo (text-in bs at out e (room-in out at (length bs) (leb-true _ _ q)) .says)) (inr refl))
+    go true q =
+        rw q (comes (ap comesTo (text-in bs at out e (room-in out at (length bs) (leb-true _ _ q)) .says)) (inr refl))
     go false q = rw q (case-no NoRoom [] (text-out bs at out e (room-out out at (length bs) (leb-false _ _ q)) .says))
 
 -- a text by a test
-case-by : {t : Answer (List ℕ)} (why : Reason) (bs : List ℕ) (fits : Bool) (at n : ℕ) (out : List ℕ) → t ≡ pick fits (accepted bs) (refused (unplaced why)) → length bs ≡ n
+case-by : {t : Answer (List ℕ)} (why : Reason) (bs : List ℕ) (fits : Bool) (at n : ℕ) (out : List ℕ)
+    → t ≡ pick fits (accepted bs) (refused (unplaced why)) → length bs ≡ n
     → Comes t at out (pick fits (upTo (at + n) out) (refusing why)) (why ∷ NoRoom ∷ [])
 case-by why bs true at n out e l = wider why (case-yes bs at n out e l)
 case-by why bs false at n out e l = case-no why (NoRoom ∷ []) (text-refused at out e .says)
 
 -- a message of n bytes, and one by a test: where it holds there is a body of k bytes
-message-yes : (kind : ℕ) {body : Answer (List ℕ)} {bs : List ℕ} (k n : ℕ) (out : List ℕ) → Message (headText kind) 4 body bs k × (4 + k ≡ n)
-    → Comes (messageText (headText kind) body) 0 out (upTo n out) (NoRoom ∷ [])
-message-yes kind {bs = bs} k n out (b, l) =
+message-yes : (msgType : ℕ) {body : Answer (List ℕ)} {bs : List ℕ} (k n : ℕ) (out : List ℕ)
+    → Message (headText msgType) 4 body bs k × (4 + k ≡ n)
+    → Comes (messageText (headText msgType) body) 0 out (upTo n out) (NoRoom ∷ [])
+message-yes msgType {bs = bs} k n out (b, l) =
     let m : length (b .front ++ bs) ≡ n = simp length-append (omega (arith, b .wide, b .long, l)) in
-    rw zero-add at (case-yes (b .front ++ bs) 0 n out (message-is (headText kind) (b .front) bs (rw (b .long) at (b .before)) (b .is)) m)
+    rw zero-add at (case-yes (b .front ++ bs) 0 n out
+    (message-is (headText msgType) (b .front) bs (rw (b .long) at (b .before)) (b .is)) m)
 
-message-case : (kind : ℕ) {body : Answer (List ℕ)} {bs : List ℕ} (k n : ℕ) (fits : Bool) (out : List ℕ) → (fits ≡ true → Message (headText kind) 4 body bs k × (4 + k ≡ n))
-    → (fits ≡ false → Came (messageText (headText kind) body) 0 out (refused (unplaced BadLength)) out)
-    → Comes (messageText (headText kind) body) 0 out (whereFits fits n out) (BadLength ∷ NoRoom ∷ [])
-message-case kind k n true out y z = wider BadLength (message-yes kind k n out (y refl))
-message-case kind k n false out y z = case-no BadLength (NoRoom ∷ []) (z refl .says)
+message-case : (msgType : ℕ) {body : Answer (List ℕ)} {bs : List ℕ} (k n : ℕ) (fits : Bool) (out : List ℕ)
+    → (fits ≡ true → Message (headText msgType) 4 body bs k × (4 + k ≡ n))
+    → (fits ≡ false → Came (messageText (headText msgType) body) 0 out (refused (unplaced BadLength)) out)
+    → Comes (messageText (headText msgType) body) 0 out (whereFits fits n out) (BadLength ∷ NoRoom ∷ [])
+message-case msgType k n true out y z = wider BadLength (message-yes msgType k n out (y refl))
+message-case msgType k n false out y z = case-no BadLength (NoRoom ∷ []) (z refl .says)
 
 -- tests: two that hold together are one
 same : (a b : Bool) → (a ≡ true → b ≡ true) → (b ≡ true → a ≡ true) → a ≡ b
@@ -132,7 +158,8 @@ plain w n = and-true (ltb n (256 ^ bytesIn w)) ∙ width-most w n
 narrow : (w : Width) (n k : ℕ) → k < 256 ^ bytesIn w → (ltb n (256 ^ bytesIn w) && leb n k) ≡ leb n k
 narrow w n k h =
     let m = 256 ^ bytesIn w in
-    same (ltb n m && leb n k) (leb n k) (λ e. both-true (ltb n m) (leb n k) e .1) (λ e. rw (lt-ltb n m (omega (arith, leb-true n k e))) e)
+    same (ltb n m && leb n k) (leb n k) (λ e. both-true (ltb n m) (leb n k) e .1)
+    (λ e. rw (lt-ltb n m (omega (arith, leb-true n k e))) e)
 
 even : (n : ℕ) → (ltb n 65536 && eqb (n % 2) 0) ≡ (eqb (n % 2) 0 && leb n 65534)
 even n = same _ _ there back
@@ -148,156 +175,217 @@ even n = same _ _ there back
         rw (lt-ltb n 65536 (omega (arith, leb-true n 65534 (h .1)))) (h .0)
 
 -- a part that may stand in a field
-view-may : (f : Field) (s : List ℕ) (v : View) → mayStand f asView s v ≡ (lent s v && allowed f (v .len))
-view-may f s v = go (lent s v) refl
+view-may : (f : Field) (s : List ℕ) (v : View) → mayStand f asView s v ≡ (withinBytes s v && allowed f (v .len))
+view-may f s v = go (withinBytes s v) refl
   where
-    go : (t : Bool) → lent s v ≡ t → mayStand f asView s v ≡ (lent s v && allowed f (v .len))
+    go : (t : Bool) → withinBytes s v ≡ t → mayStand f asView s v ≡ (withinBytes s v && allowed f (v .len))
     go true e = may-in f s v e ∙ sym (ap (λ (b : Bool). b && allowed f (v .len)) e)
     go false e = may-out f s v e ∙ sym (ap (λ (b : Bool). b && allowed f (v .len)) e)
 
-opt-may : (f : Field) (s : List ℕ) (o : OptView) → mayStand f (asOpt false) s o ≡ (optLent s o && allowed f (optLen o))
+opt-may : (f : Field) (s : List ℕ) (o : OptView)
+    → mayStand f (asOpt false) s o ≡ (optWithin s o && allowed f (optLen o))
 opt-may f s Absent = refl
 opt-may f s (Present v) = view-may f s v
 
 id-may : (s : List ℕ) (o : OptView) → mayStand (sessionId .0) (asOpt false) s o ≡ idFits s o
-id-may s o = opt-may (sessionId .0) s o ∙ ap (λ (b : Bool). optLent s o && b) (rw (unless-is {A = ℕ → ℕ → Refusal} (leb (optLen o) 32) (λ at behind. refusal Verify at 0)) (narrow One (optLen o) 32 (omega arith)))
+id-may s o = opt-may (sessionId .0) s o
+    ∙ ap (λ (b : Bool). optWithin s o && b)
+    (rw (unless-is {A = ℕ → ℕ → Refusal} (leb (optLen o) 32) (λ at behind. refusal Verify at 0))
+    (narrow One (optLen o) 32 (omega arith)))
 
 ciphers-may : (s : List ℕ) (v : View) → mayStand (ciphers .0) asView s v ≡ ciphersFit s v
-ciphers-may s v = view-may (ciphers .0) s v ∙ ap (λ (b : Bool). lent s v && b) (rw (unless-is {A = ℕ → ℕ → Refusal} (eqb (v .len % 2) 0) (λ at behind. refusal LengthValue behind 0)) (even (v .len)))
+ciphers-may s v = view-may (ciphers .0) s v
+    ∙ ap (λ (b : Bool). withinBytes s v && b)
+    (rw (unless-is {A = ℕ → ℕ → Refusal} (eqb (v .len % 2) 0) (λ at behind. refusal LengthValue behind 0))
+    (even (v .len)))
 
 extensions-may : (s : List ℕ) (o : OptView) → mayStand extensions (asOpt false) s o ≡ extensionsFit s o
-extensions-may s o = opt-may extensions s o ∙ ap (λ (b : Bool). optLent s o && b) (plain Two (optLen o))
+extensions-may s o = opt-may extensions s o ∙ ap (λ (b : Bool). optWithin s o && b) (plain Two (optLen o))
 
 part-may : (w : Width) (s : List ℕ) (v : View) → mayStand (sized (bytesIn w)) asView s v ≡ partFits (most w) s v
-part-may w s v = view-may (sized (bytesIn w)) s v ∙ ap (λ (b : Bool). lent s v && b) (plain w (v .len))
+part-may w s v = view-may (sized (bytesIn w)) s v ∙ ap (λ (b : Bool). withinBytes s v && b) (plain w (v .len))
 
 -- how long a part is that lies within the bytes
-view-length : (s : List ℕ) (v : View) (more : Bool) → (lent s v && more) ≡ true → length (partOf s v) ≡ v .len
-view-length s v more e = eqb-true _ _ (both-true (lent s v) _ (may-in (fixed (v .len)) s v (both-true (lent s v) more e .0) ∙ eq-eqb (v .len) (v .len) refl) .1)
+view-length : (s : List ℕ) (v : View) (more : Bool) → (withinBytes s v && more) ≡ true → length (partOf s v) ≡ v .len
+view-length s v more e =
+    eqb-true _ _ (both-true (withinBytes s v) _
+    (may-in (fixed (v .len)) s v (both-true (withinBytes s v) more e .0) ∙ eq-eqb (v .len) (v .len) refl) .1)
 
-opt-length : (s : List ℕ) (o : OptView) (more : Bool) → (optLent s o && more) ≡ true → length (optPartOf s o) ≡ optLen o
+opt-length : (s : List ℕ) (o : OptView) (more : Bool) → (optWithin s o && more) ≡ true
+    → length (optPartOf s o) ≡ optLen o
 opt-length s Absent more e = refl
 opt-length s (Present v) more e = view-length s v more e
 
 -- the hellos: which may be written, and how long they are
-hello-case : {C : Type 0} (k : Form C) (kind : ℕ) (s : List ℕ) (c : C) (fits : Bool) (n : ℕ) (out : List ℕ) → mayWrite k s c ≡ fits
-    → (mayWrite k s c ≡ true → fits ≡ true → (4 + length (helloBytes k s c) ≡ n) × (length (helloBytes k s c) < 16777216))
-    → Comes (messageText (headText kind) (helloText k s c)) 0 out (whereFits fits n out) (BadLength ∷ NoRoom ∷ [])
-hello-case k kind s c fits n out m h =
-    message-case kind (length (helloBytes k s c)) n fits out
-    (λ e. let (l, b) = h (m ∙ e) e in (hello-message k kind s c _ (m ∙ e) refl b, l))
-    (λ e. hello-refused k kind s c out {t = false} (sym (m ∙ e)) refl refl)
+hello-case : {C : Type 0} (k : Form C) (msgType : ℕ) (s : List ℕ) (c : C) (fits : Bool) (n : ℕ) (out : List ℕ)
+    → mayWrite k s c ≡ fits
+    → (mayWrite k s c ≡ true → fits ≡ true → (4 + length (helloBytes k s c) ≡ n)
+    × (length (helloBytes k s c) < 16777216))
+    → Comes (messageText (headText msgType) (helloText k s c)) 0 out (whereFits fits n out) (BadLength ∷ NoRoom ∷ [])
+hello-case k msgType s c fits n out m h =
+    message-case msgType (length (helloBytes k s c)) n fits out
+    (λ e. let (l, b) = h (m ∙ e) e in (hello-message k msgType s c _ (m ∙ e) refl b, l))
+    (λ e. hello-refused k msgType s c out {t = false} (sym (m ∙ e)) refl refl)
 
-client-hello : (s : List ℕ) (c : TlsClientHelloContents) (out : List ℕ) → Comes (messageText (headText 0x01) (helloText client s c)) 0 out (clientWrite s c out) (BadLength ∷ NoRoom ∷ [])
+client-hello : (s : List ℕ) (c : TlsClientHelloContents) (out : List ℕ)
+    → Comes (messageText (headText 0x01) (helloText client s c)) 0 out (clientWrite s c out) (BadLength ∷ NoRoom ∷ [])
 unfolding clientWrite
 client-hello s c out =
     hello-case client 0x01 s c _ _ out
     (mays.begin client s c .is
-    ∙ also (view-may (random .0) s (c .random)) (also (id-may s (c .«session_id»)) (also (ciphers-may s (c .ciphers)) (also (part-may One s (c .comp)) (extensions-may s (c .ext))))))
+    ∙ also (view-may (random .0) s (c .random))
+    (also (id-may s (c .«session_id»))
+    (also (ciphers-may s (c .ciphers)) (also (part-may One s (c .comp)) (extensions-may s (c .ext))))))
     (λ m e.
     let o = obeyed client s c m in
     let l = client-length s c o in
     let (r, a) = both-true (randomFits s (c .random)) _ e in
     let (i, b) = both-true (idFits s (c .«session_id»)) _ a in
     let (j, d) = both-true (ciphersFit s (c .ciphers)) _ b in
-    let (k, x) = both-true (partFits 255 s (c .comp)) _ d in
-    (omega (arith, l, opt-length s (c .«session_id») _ i, view-length s (c .ciphers) _ j, view-length s (c .comp) _ k, opt-length s (c .ext) _ x), omega (arith, l, client-bounds s c o)))
+    let (k, x) = both-true (partFits 255 s (c .comp)) _ d in (
+      omega (
+        arith,
+        l,
+        opt-length s (c .«session_id») _ i,
+        view-length s (c .ciphers) _ j,
+        view-length s (c .comp) _ k,
+        opt-length s (c .ext) _ x,
+      ),
+      omega (arith, l, client-bounds s c o),
+    ))
 
-server-hello : (s : List ℕ) (c : TlsServerHelloContents) (out : List ℕ) → Comes (messageText (headText 0x02) (helloText (server true) s c)) 0 out (serverWrite s c out) (BadLength ∷ NoRoom ∷ [])
+server-hello : (s : List ℕ) (c : TlsServerHelloContents) (out : List ℕ)
+    → Comes (messageText (headText 0x02) (helloText (server true) s c)) 0 out (serverWrite s c out)
+    (BadLength ∷ NoRoom ∷ [])
 unfolding serverWrite
 server-hello s c out =
     hello-case (server true) 0x02 s c _ _ out
-    (mays.begin (server true) s c .is ∙ also (view-may (random .0) s (c .random)) (also (id-may s (c .«session_id»)) (extensions-may s (c .ext))))
+    (mays.begin (server true) s c .is
+    ∙ also (view-may (random .0) s (c .random)) (also (id-may s (c .«session_id»)) (extensions-may s (c .ext))))
     (λ m e.
     let o = obeyed (server true) s c m in
     let l = server-length s c o in
     let (r, a) = both-true (randomFits s (c .random)) _ e in
-    let (i, x) = both-true (idFits s (c .«session_id»)) _ a in
-    (omega (arith, l, opt-length s (c .«session_id») _ i, opt-length s (c .ext) _ x), omega (arith, l, server-bounds s c o)))
+    let (i, x) = both-true (idFits s (c .«session_id»)) _ a in (
+      omega (arith, l, opt-length s (c .«session_id») _ i, opt-length s (c .ext) _ x),
+      omega (arith, l, server-bounds s c o),
+    ))
 
-draft18-hello : (s : List ℕ) (c : TlsServerHelloV13Draft18Contents) (out : List ℕ) → Comes (messageText (headText 0x02) (helloText draft18 s c)) 0 out (draft18Write s c out) (BadLength ∷ NoRoom ∷ [])
+draft18-hello : (s : List ℕ) (c : TlsServerHelloV13Draft18Contents) (out : List ℕ)
+    → Comes (messageText (headText 0x02) (helloText draft18 s c)) 0 out (draft18Write s c out) (BadLength ∷ NoRoom ∷ [])
 unfolding draft18Write
 draft18-hello s c out =
     hello-case draft18 0x02 s c _ _ out
     (mays.begin draft18 s c .is ∙ also (view-may (random .0) s (c .random)) (extensions-may s (c .ext)))
     (λ m e.
     let o = obeyed draft18 s c m in
-    let l = draft18-length s c o in
-    (omega (arith, l, opt-length s (c .ext) _ (both-true (randomFits s (c .random)) _ e .1)), omega (arith, l, draft18-bounds s c o)))
+    let l = draft18-length s c o in (
+      omega (arith, l, opt-length s (c .ext) _ (both-true (randomFits s (c .random)) _ e .1)),
+      omega (arith, l, draft18-bounds s c o),
+    ))
 
 -- a part, as it is and behind its length
-view-case : (kind : ℕ) (s : List ℕ) (v : View) (out : List ℕ) → Comes (messageText (headText kind) (viewText s v)) 0 out (whereFits (partFits 16777215 s v) (4 + v .len) out) (BadLength ∷ NoRoom ∷ [])
-view-case kind s v out =
-    message-case kind (length (partOf s v)) (4 + v .len) (partFits 16777215 s v) out
-    (λ e. (view-message s v kind {t = true} (sym (part-may Three s v ∙ e)) refl (partOf s v) refl, omega (arith, view-length s v _ e)))
-    (λ e. view-refused s v kind out {t = false} (sym (part-may Three s v ∙ e)) refl refl)
+view-case : (msgType : ℕ) (s : List ℕ) (v : View) (out : List ℕ)
+    → Comes (messageText (headText msgType) (viewText s v)) 0 out (whereFits (partFits 16777215 s v) (4 + v .len) out)
+    (BadLength ∷ NoRoom ∷ [])
+view-case msgType s v out =
+    message-case msgType (length (partOf s v)) (4 + v .len) (partFits 16777215 s v) out
+    (λ e. (
+      view-message s v msgType {t = true} (sym (part-may Three s v ∙ e)) refl (partOf s v) refl,
+      omega (arith, view-length s v _ e),
+    ))
+    (λ e. view-refused s v msgType out {t = false} (sym (part-may Three s v ∙ e)) refl refl)
 
-sized-case : (kind : ℕ) (w : Width) → wide w ≤ 2 → (s : List ℕ) (v : View) (out : List ℕ)
-    → Comes (messageText (headText kind) (sizedText (bytesIn w) s v)) 0 out (whereFits (partFits (most w) s v) (4 + (wide w + v .len)) out) (BadLength ∷ NoRoom ∷ [])
-sized-case kind w h s v out =
-    message-case kind (wide w + length (partOf s v)) (4 + (wide w + v .len)) (partFits (most w) s v) out
-    (λ e. (sized-message s v (bytesIn w) {t = true} (sym (part-may w s v ∙ e)) refl (partOf s v) refl kind (rw (width-wide w) h) (wide w) (sym (width-wide w)) .message, omega (arith, view-length s v _ e)))
-    (λ e. sized-refused s v (bytesIn w) kind out {t = false} (sym (part-may w s v ∙ e)) refl refl)
+sized-case : (msgType : ℕ) (w : Width) → wide w ≤ 2 → (s : List ℕ) (v : View) (out : List ℕ)
+    → Comes (messageText (headText msgType) (sizedText (bytesIn w) s v)) 0 out
+    (whereFits (partFits (most w) s v) (4 + (wide w + v .len)) out) (BadLength ∷ NoRoom ∷ [])
+sized-case msgType w h s v out =
+    message-case msgType (wide w + length (partOf s v)) (4 + (wide w + v .len)) (partFits (most w) s v) out
+    (λ e. (
+      sized-message s v (bytesIn w) {t = true} (sym (part-may w s v ∙ e)) refl (partOf s v) refl msgType
+          (rw (width-wide w) h) (wide w) (sym (width-wide w)) .message,
+      omega (arith, view-length s v _ e),
+    ))
+    (λ e. sized-refused s v (bytesIn w) msgType out {t = false} (sym (part-may w s v ∙ e)) refl refl)
 
-client-key-exchange : (s : List ℕ) (k : TlsClientKeyExchangeContents) (out : List ℕ) → Comes (messageText (headText 0x10) (exchangeText s k)) 0 out (exchangeWrite s k out) (BadLength ∷ NoRoom ∷ [])
+client-key-exchange : (s : List ℕ) (k : TlsClientKeyExchangeContents) (out : List ℕ)
+    → Comes (messageText (headText 0x10) (exchangeText s k)) 0 out (exchangeWrite s k out) (BadLength ∷ NoRoom ∷ [])
 client-key-exchange s (Unknown v) out = view-case 0x10 s v out
 client-key-exchange s (Dh v) out = sized-case 0x10 Two (omega arith) s v out
 client-key-exchange s (Ecdh v) out = sized-case 0x10 One (omega arith) s v out
 
-finished : (s : List ℕ) (v : View) (out : List ℕ) → Comes (messageText (headText 0x14) (viewText s v)) 0 out (finishedWrite s v out) (BadLength ∷ NoRoom ∷ [])
+finished : (s : List ℕ) (v : View) (out : List ℕ)
+    → Comes (messageText (headText 0x14) (viewText s v)) 0 out (finishedWrite s v out) (BadLength ∷ NoRoom ∷ [])
 finished s v out = view-case 0x14 s v out
 
-head : (msgType n : ℕ) (out : List ℕ) → Comes (headText msgType n) 0 out (whereFits (leb n 16777215) 4 out) (BadLength ∷ NoRoom ∷ [])
+head : (msgType n : ℕ) (out : List ℕ)
+    → Comes (headText msgType n) 0 out (whereFits (leb n 16777215) 4 out) (BadLength ∷ NoRoom ∷ [])
 unfolding headText numberText
 head msgType n out = rw (width-most Three n) (go (leb n 16777215))
   where
-    go : (t : Bool) → Comes (then (pick t (accepted (bytesOf 3 n)) (refused (unplaced BadLength))) (λ b. accepted (bytesOf 1 msgType ++ b))) 0 out (whereFits t 4 out) (BadLength ∷ NoRoom ∷ [])
-    go true = wider BadLength (case-yes (bytesOf 1 msgType ++ bytesOf 3 n) 0 4 out refl (simp (length-append, length-bytes)))
+    go : (t : Bool) → Comes (then (pick t (accepted (bytesOf 3 n)) (refused (unplaced BadLength)))
+        (λ b. accepted (bytesOf 1 msgType ++ b))) 0 out (whereFits t 4 out) (BadLength ∷ NoRoom ∷ [])
+    go true =
+        wider BadLength (case-yes (bytesOf 1 msgType ++ bytesOf 3 n) 0 4 out refl (simp (length-append, length-bytes)))
     go false = case-no BadLength (NoRoom ∷ []) (text-refused 0 out refl .says)
 
-hello-request : (out : List ℕ) → Comes (messageText (headText 0x00) (accepted [])) 0 out (requestWrite out) (NoRoom ∷ [])
+hello-request : (out : List ℕ)
+    → Comes (messageText (headText 0x00) (accepted [])) 0 out (requestWrite out) (NoRoom ∷ [])
 hello-request out = message-yes 0x00 0 4 out (short-head 0x00 refl refl (omega arith), refl)
 
-not-written : (out : List ℕ) → Comes notWritten 0 out (refusing NotYetImplemented) (NotYetImplemented ∷ BadLength ∷ NoRoom ∷ [])
+not-written : (out : List ℕ)
+    → Comes notWritten 0 out (refusing NotYetImplemented) (NotYetImplemented ∷ BadLength ∷ NoRoom ∷ [])
 not-written out = case-no NotYetImplemented (BadLength ∷ NoRoom ∷ []) (text-refused 0 out refl .says)
 
-handshake : (s : List ℕ) (m : TlsMessageHandshake) (out : List ℕ) → Comes (handshakeText s m) 0 out (handshakeWrite s m out) (NotYetImplemented ∷ BadLength ∷ NoRoom ∷ [])
+-- of each kind that is written, and of every other
+of-written : (s out : List ℕ) (b : WrittenBody)
+    → Comes (handshakeText s (messageOf b)) 0 out (handshakeWrite s (messageOf b) out)
+    (NotYetImplemented ∷ BadLength ∷ NoRoom ∷ [])
 unfolding handshakeText handshakeWrite
-handshake s HelloRequest out = wider NotYetImplemented (wider BadLength (hello-request out))
-handshake s (ClientHello c) out = wider NotYetImplemented (client-hello s c out)
-handshake s (ServerHello c) out = wider NotYetImplemented (server-hello s c out)
-handshake s (ServerHelloV13Draft18 c) out = wider NotYetImplemented (draft18-hello s c out)
-handshake s (ClientKeyExchange k) out = wider NotYetImplemented (client-key-exchange s k out)
-handshake s (Finished v) out = wider NotYetImplemented (finished s v out)
-handshake s (NewSessionTicket c) out = not-written out
-handshake s EndOfEarlyData out = not-written out
-handshake s (HelloRetryRequest c) out = not-written out
-handshake s (Certificate c) out = not-written out
-handshake s (ServerKeyExchange c) out = not-written out
-handshake s (CertificateRequest c) out = not-written out
-handshake s (ServerDone v) out = not-written out
-handshake s (CertificateVerify v) out = not-written out
-handshake s (CertificateStatus c) out = not-written out
-handshake s (NextProtocol c) out = not-written out
-handshake s (KeyUpdate n) out = not-written out
+of-written s out noBody = wider NotYetImplemented (wider BadLength (hello-request out))
+of-written s out (clientBody c) = wider NotYetImplemented (client-hello s c out)
+of-written s out (serverBody c) = wider NotYetImplemented (server-hello s c out)
+of-written s out (draft18Body c) = wider NotYetImplemented (draft18-hello s c out)
+of-written s out (exchangeBody k) = wider NotYetImplemented (client-key-exchange s k out)
+of-written s out (finishedBody v) = wider NotYetImplemented (finished s v out)
 
-plaintext : (hdr : TlsRecordHeader) (p out : List ℕ) → Comes (recordText hdr p) 0 out (recordWrite p out) (TooLarge ∷ NoRoom ∷ [])
+of-other : (s out : List ℕ) (m : TlsMessageHandshake) → bodyWritten m ≡ none
+    → Comes (handshakeText s m) 0 out (handshakeWrite s m out) (NotYetImplemented ∷ BadLength ∷ NoRoom ∷ [])
+unfolding handshakeText handshakeWrite
+of-other s out m e = rw e (not-written out)
+
+handshake : (s : List ℕ) (m : TlsMessageHandshake) (out : List ℕ)
+    → Comes (handshakeText s m) 0 out (handshakeWrite s m out) (NotYetImplemented ∷ BadLength ∷ NoRoom ∷ [])
+handshake s m out =
+    by-written (λ x. Comes (handshakeText s x) 0 out (handshakeWrite s x out)
+    (NotYetImplemented ∷ BadLength ∷ NoRoom ∷ [])) (of-written s out) (λ x e a. of-other s out x e) m
+
+plaintext : (hdr : TlsRecordHeader) (p out : List ℕ)
+    → Comes (recordText hdr p) 0 out (recordWrite p out) (TooLarge ∷ NoRoom ∷ [])
 unfolding recordText join
 plaintext hdr p out =
     rw zero-add at
     (case-by {t = recordText hdr p} TooLarge (recordBytes hdr p) (leb (length p) 16640) 0 (5 + length p) out
-    (rw (unless-is {A = ℕ → ℕ → Refusal} (leb (length p) 16640) (λ at behind. refusal TooLarge at 0), narrow Two (length p) 16640 (omega arith)))
+    (rw (
+      unless-is {A = ℕ → ℕ → Refusal} (leb (length p) 16640) (λ at behind. refusal TooLarge at 0),
+      narrow Two (length p) 16640 (omega arith),
+    ))
     (simp (length-append, length-bytes, append-nil) (omega arith)))
 
 -- what they are made of
-number : (w : Width) (n at : ℕ) (out : List ℕ) → Comes (numberText (bytesIn w) n) at out (whereFits (leb n (most w)) (at + wide w) out) (BadLength ∷ NoRoom ∷ [])
+number : (w : Width) (n at : ℕ) (out : List ℕ)
+    → Comes (numberText (bytesIn w) n) at out (whereFits (leb n (most w)) (at + wide w) out) (BadLength ∷ NoRoom ∷ [])
 unfolding numberText
-number w n at out = case-by BadLength (bytesOf (bytesIn w) n) (leb n (most w)) at (wide w) out (rw (width-most w n)) (length-bytes (bytesIn w) n ∙ width-wide w)
+number w n at out =
+    case-by BadLength (bytesOf (bytesIn w) n) (leb n (most w)) at (wide w) out (rw (width-most w n))
+    (length-bytes (bytesIn w) n ∙ width-wide w)
 
-field : (w : Width) (k : RuleName) (p : List ℕ) (at : ℕ) (out : List ℕ) → Comes (fieldText (vector (bytesIn w) (ruleOf k)) p) at out (fieldWrite w k p at out) (ruleSays k ∷ NoRoom ∷ [])
+field : (w : Width) (k : RuleName) (p : List ℕ) (at : ℕ) (out : List ℕ)
+    → Comes (fieldText (vector (bytesIn w) (ruleOf k)) p) at out (fieldWrite w k p at out) (ruleRefuses k ∷ NoRoom ∷ [])
 unfolding fieldText
 field w k p at out =
-    case-by (ruleSays k) (fieldBytes (vector (bytesIn w) (ruleOf k)) p) (leb (length p) (most w) && ruleFits k (length p)) at (wide w + length p) out
+    case-by (ruleRefuses k) (fieldBytes (vector (bytesIn w) (ruleOf k)) p)
+    (leb (length p) (most w) && ruleFits k (length p)) at (wide w + length p) out
     (rw (also (width-most w (length p)) (fits k), unfit k))
     (length-vector (bytesIn w) (ruleOf k) p ∙ rw (width-wide w))
   where
@@ -308,7 +396,7 @@ field w k p at out =
     fits Methods = refl
     fits Fragment = unless-is _ _
 
-    unfit : (k : RuleName) → ruleOf k .unfit ≡ ruleSays k
+    unfit : (k : RuleName) → ruleOf k .unfit ≡ ruleRefuses k
     unfit Plain = refl
     unfit SessionId = refl
     unfit Ciphers = refl
@@ -318,7 +406,8 @@ field w k p at out =
 -- hearing: a message, BadLength or NotYetImplemented
 hearing : (m : List ℕ) → OneOf (NotYetImplemented ∷ BadLength ∷ []) (numberIn (heard m))
 hearing m =
-    each-heard (λ a. OneOf (NotYetImplemented ∷ BadLength ∷ []) (numberIn a)) (λ x. inr (inr refl)) (inr (inl (ap numberOf (unplaced-reason BadLength))))
+    each-heard (λ a. OneOf (NotYetImplemented ∷ BadLength ∷ []) (numberIn a)) (λ x. inr (inr refl))
+    (inr (inl (ap numberOf (unplaced-reason BadLength))))
     (inl (ap numberOf (unplaced-reason NotYetImplemented))) m
 
 pub every-writing : (s out : List ℕ) → Writers s out
@@ -334,6 +423,6 @@ every-writing s out = record {
   number = λ w n at. number w n at out;
   bytes = λ at. case-yes s at (length s) out refl refl;
   field = λ w k at. field w k s at out;
-  head = λ kind n. head kind n out;
+  head = λ msgType n. head msgType n out;
   hearing = hearing s;
 }

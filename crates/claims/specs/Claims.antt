@@ -1,8 +1,10 @@
--- Everything that is claimed beyond the contracts of single functions, of the forms, lists, messages and records of this code: one field
--- for each theorem. `claims::all_claims` promises them all, so that none can go missing. `EveryForm` and `EveryListing`
--- (`grammar/specs/Demand3.antt`), over all contents, are what the fields of demand 3 are shown by, and have no field.
-use Rattle.refusal.specs.{ℕ, _≤_, _≡_, Bool, List, getD, RefT, NumbersApart, accepted, OneResult}
-use Rattle.wire.specs.{partOf, partSays, Bytes, numberSays, EachUndoes, writeSays, View}
+-- Everything that is claimed beyond the contracts of single functions, of the forms, lists,
+-- messages and records of this code: one field for each theorem. RULES cites them, or what they
+-- claim, beside its rules. `claims::all_claims` promises them all, so that none can go missing.
+-- `EveryForm` and `EveryListing` (`grammar/specs/Demand3.antt`), over all contents, are what the
+-- fields of demand 3 are shown by, and have no field.
+use Rattle.refusal.specs.{ℕ, _≤_, _≡_, Bool, List, getD, RefT, NumbersApart, accepted, OneResult, true, false}
+use Rattle.wire.specs.{ifSome, partOf, partSays, Bytes, numberSays, EachUndoes, writeSays, View}
 use Rattle.field.specs.{Field, fixed, sized, least}
 use Rattle.grammar.specs.{BySplit, ByVersion}
 use Rattle.list.specs.{NoneMore, ByItems}
@@ -12,7 +14,7 @@ use Rattle.read_server.specs.{server, serverVersions, serverSays, draft18, draf
 use Rattle.read_certs.specs.{certificate, certificateSays, request, requestSays, status, statusSays, OfRequest}
 use Rattle.cert_reader.specs.Chain.{SameItems}
 use Rattle.read_others.specs.Body.{retry, retrySays, ticketSays, nextProtocol, nextProtocolSays, OfTicket}
-use Rattle.message.specs.{messageSays, TlsMessageHandshake}
+use Rattle.message.specs.{messageSays, TlsMessageHandshake, kindNumber, typeOf, bodyWritten}
 use Rattle.write_message.specs.Written.{handshakeText}
 use Rattle.open_hellos.specs.HelloMessages.{AsMessage}
 use Rattle.envelope.specs.{headSays, opened}
@@ -26,7 +28,7 @@ use Rattle.claim_rows.specs.Readings.{rows, ownRows, AllRead}
 use Rattle.claim_readers.specs.Readers.{Readers}
 use Rattle.claim_wayback.specs.WayBack.{EveryText, WritesBack, ReadsAgain, BackByVersion, AgainByVersion, OneText, WayBack}
 use Rattle.claim_writers.specs.Writers.{Writers}
-use Rattle.claims.specs.Crossed.{HeaderAndRecord, typeOf}
+use Rattle.claims.specs.Crossed.{HeaderAndRecord, isWritten}
 
 -- of every list of bytes: what is lent is one by its type, which `claims::bytes_lent` promises
 abbrev pub OfBytes : (List ℕ → Type 0) → Type 0
@@ -58,14 +60,15 @@ pub record Claims : Type 0 where
   pub oneOpened : OneResult openedSays
   -- numbers and their bytes, of every width
   pub numbers : (w : ℕ) → EachUndoes w
-  -- demand 3, its reading half, of the three hellos: by their grammars, a ServerHello by its version, and which of the two
-  -- ServerHellos a message is
+  -- demand 3, its reading half, of the three hellos: by their grammars, a ServerHello by its
+  -- version, and which of the two ServerHellos a message is
   pub readsClient : OfBytes (BySplit client)
   pub readsServer : (hasExt : Bool) → OfBytes (BySplit (server hasExt))
   pub readsDraft18 : OfBytes (BySplit draft18)
   pub readsByVersion : OfBytes (ByVersion serverVersions)
   pub readsAsMessage : (s : List ℕ) → AsMessage s
-  -- any text, written; demand 3, its writing half: what was read, written back, with at most so many bytes before the tail
+  -- any text, written; demand 3, its writing half: what was read, written back, with at most so
+  -- many bytes before the tail
   pub everyText : EveryText
   pub writesClient : OfBytes (WritesBack client 0x01 131396)
   pub writesServer : (hasExt : Bool) → OfBytes (WritesBack (server hasExt) 0x02 65607)
@@ -77,15 +80,17 @@ pub record Claims : Type 0 where
   pub againServer : (hasExt : Bool) → OfBytes (λ s. (c : TlsServerHelloContents) → ReadsAgain (server hasExt) s c)
   pub againDraft18 : OfBytes (λ s. (c : TlsServerHelloV13Draft18Contents) → ReadsAgain draft18 s c)
   pub againByVersion : AgainByVersion
-  -- lists: of the items of every field that takes a byte at least; that the bound never ends one; and those that are handed out: names,
-  -- certificates, methods and types, ciphers and signature pairs
+  -- lists: of the items of every field that takes a byte at least; that the bound never ends one;
+  -- and those that are handed out: names, certificates, methods and types, ciphers and signature
+  -- pairs
   pub lists : (f : Field) → 1 ≤ least f → OfBytes (ByItems f)
   pub noneMore : NoneMore
   pub names : OfBytes (ByItems (sized 2))
   pub certificates : OfBytes (ByItems (sized 3))
   pub methods : OfBytes (ByItems (fixed 1))
   pub ciphers : OfBytes (ByItems (fixed 2))
-  -- the other bodies that hold fields, by their grammars; which form a CertificateRequest is read by; the ticket by its length
+  -- the other bodies that hold fields, by their grammars; which form a CertificateRequest is read
+  -- by; the ticket by its length
   pub splitsCertificate : OfBytes (BySplit certificate)
   pub splitsRequest : (long : Bool) → OfBytes (BySplit (request long))
   pub chooses : OfBytes OfRequest
@@ -93,7 +98,8 @@ pub record Claims : Type 0 where
   pub splitsRetry : OfBytes (BySplit retry)
   pub splitsNextProtocol : OfBytes (BySplit nextProtocol)
   pub ticket : (n : ℕ) → OfBytes (OfTicket n)
-  -- records, joined ones, the walk over one, the reader that holds its list, and a part of a part as a part of the whole
+  -- records, joined ones, the walk over one, the reader that holds its list, and a part of a part
+  -- as a part of the whole
   pub splitsRecord : OfBytes (BySplit raw)
   pub noRecordMore : (s : List ℕ) → NoRecordMore s
   pub walks : (content : List ℕ) → Walking content
@@ -101,14 +107,17 @@ pub record Claims : Type 0 where
   pub sameBytes : (s : List ℕ) (outer inner : View) → partOf s (viewIn s outer inner) ≡ partOf (partOf s outer) inner
   -- what reading finds of what was written, and hearing of what was told
   pub wayBack : WayBack
-  pub heardAgain : (m : TlsMessageHandshake) → FieldsFit m → heard (messageNumbers m) ≡ heardBack m
-  -- rules said a second time: the header and the record, types and kinds, document 01's rows and our own
+  pub hearsBack : (m : TlsMessageHandshake) → FieldsFit m → heard (messageNumbers m) ≡ heardBack m
+  -- rules said a second time: the header and the record, types and kinds, which kinds are written,
+  -- the rows of RULES 8 and our own
   pub header : (s : List ℕ) → HeaderAndRecord s
   pub kinds : (msgType n : ℕ) (s : List ℕ) (m : TlsMessageHandshake) → opened msgType n s ≡ accepted m → typeOf m ≡ msgType
-  pub paperRows : AllRead rows
+  pub written : (m : TlsMessageHandshake) → ifSome (bodyWritten m) (λ b. true) false ≡ isWritten (kindNumber m)
+  pub rulesRows : AllRead rows
   pub otherRows : AllRead ownRows
-  -- "Each is given only then": every reader with its number by places and lengths, which refusals it gives and that it gives each; every
-  -- writer with its number and which refusals it gives, and the type that a written message begins with
+  -- RULES 1.2: every reader with its number by places and lengths, which refusals it gives and that
+  -- it gives each; every writer with its number and which refusals it gives, and the type that a
+  -- written message begins with
   pub readersSay : Readers
   pub writersSay : (s out : List ℕ) → Writers s out
   pub writersType : (s : List ℕ) (m : TlsMessageHandshake) (t : List ℕ) → handshakeText s m ≡ accepted t → getD t 0 0 ≡ typeOf m

@@ -10,6 +10,7 @@ use Rattle.field.proofs.Rules.{fixed-in}
 use Rattle.message.specs.declared.handshake.TlsMessageHandshake.{TlsMessageHandshake}
 use Rattle.open_whole.specs.Whole.{wholeBody}
 
-pub whole-body : (make : View → TlsMessageHandshake) (s : List ℕ) → wholeBody make (length s) s ≡ accepted (make (record { start = 0; len = length s }))
+pub whole-body : (make : View → TlsMessageHandshake) (s : List ℕ)
+    → wholeBody make (length s) s ≡ accepted (make (record { start = 0; len = length s }))
 unfolding wholeBody
 whole-body make s = rw (fixed-in (length s) s 0 (omega arith))

@@ -7,6 +7,7 @@ use message::handshake::MessageAnswer;
 use message::handshake::TlsMessageHandshake;
 use refusal::Reason;
 use refusal::Refusal;
+use registry::handshake;
 use wire::number::NumberAnswer;
 use wire::number::Width;
 use wire::view::PartAnswer;
@@ -19,12 +20,14 @@ pub struct TlsMessageHead {
     pub next: usize,
 }
 
+// Holds the head of a message, or the refusal.
 pub enum HeadAnswer {
     Refused(Refusal),
     Got(TlsMessageHead),
 }
 
-// The head of the message that begins at `at`: length and body are taken, and the type is not looked at.
+// The head of the message that begins at `at`: length and body are taken, and the type is not
+// looked at.
 pub fn parse_tls_message_head(s: &[u8], at: usize) -> HeadAnswer
     ensures { λ r. ⌜ headSays r ≡ headAt (now (s .entry)) at ⌝ }
 {
@@ -48,40 +51,57 @@ pub fn parse_tls_message_head(s: &[u8], at: usize) -> HeadAnswer
     })
 }
 
-// The body reader that the type names, `len` the length of those that take one.
+// Opens a body by its type; `len` is for the types that take a length.
 pub fn parse_tls_handshake_msg(msg_type: u8, i: &[u8], len: usize) -> MessageAnswer
     ensures { λ r. ⌜ messageSays r ≡ opened «msg_type» len (now (i .entry)) ⌝ }
 {
     match msg_type {
-        0x00 => open_hellos::parse_tls_handshake_msg_hello_request(i),
-        0x01 => open_hellos::parse_tls_handshake_msg_client_hello(i),
-        0x02 => open_hellos::parse_tls_handshake_msg_server_hello(i),
-        0x04 => open_fields::parse_tls_handshake_msg_newsessionticket(i, len),
-        0x05 => MessageAnswer::Got(TlsMessageHandshake::EndOfEarlyData),
-        0x06 => open_hellos::parse_tls_handshake_msg_hello_retry_request(i),
-        0x0b => open_fields::parse_tls_handshake_msg_certificate(i),
-        0x0c => open_whole::parse_tls_handshake_msg_serverkeyexchange(i, len),
-        0x0d => open_fields::parse_tls_handshake_msg_certificaterequest(i),
-        0x0e => open_whole::parse_tls_handshake_msg_serverdone(i, len),
-        0x0f => open_whole::parse_tls_handshake_msg_certificateverify(i, len),
-        0x10 => open_whole::parse_tls_handshake_msg_clientkeyexchange(i, len),
-        0x14 => open_whole::parse_tls_handshake_msg_finished(i, len),
-        0x16 => open_fields::parse_tls_handshake_msg_certificatestatus(i),
-        0x18 => open_fields::parse_tls_handshake_msg_key_update(i),
-        0x43 => open_fields::parse_tls_handshake_msg_next_protocol(i),
+        handshake::HELLO_REQUEST => open_hellos::parse_tls_handshake_msg_hello_request(i),
+        handshake::CLIENT_HELLO => open_hellos::parse_tls_handshake_msg_client_hello(i),
+        handshake::SERVER_HELLO => open_hellos::parse_tls_handshake_msg_server_hello(i),
+        handshake::NEW_SESSION_TICKET => open_fields::parse_tls_handshake_msg_newsessionticket(
+            i,
+            len,
+        ),
+        handshake::END_OF_EARLY_DATA => MessageAnswer::Got(TlsMessageHandshake::EndOfEarlyData),
+        handshake::HELLO_RETRY_REQUEST => open_hellos::parse_tls_handshake_msg_hello_retry_request(
+            i,
+        ),
+        handshake::CERTIFICATE => open_fields::parse_tls_handshake_msg_certificate(i),
+        handshake::SERVER_KEY_EXCHANGE => open_whole::parse_tls_handshake_msg_serverkeyexchange(
+            i,
+            len,
+        ),
+        handshake::CERTIFICATE_REQUEST => open_fields::parse_tls_handshake_msg_certificaterequest(
+            i,
+        ),
+        handshake::SERVER_DONE => open_whole::parse_tls_handshake_msg_serverdone(i, len),
+        handshake::CERTIFICATE_VERIFY => open_whole::parse_tls_handshake_msg_certificateverify(
+            i,
+            len,
+        ),
+        handshake::CLIENT_KEY_EXCHANGE => open_whole::parse_tls_handshake_msg_clientkeyexchange(
+            i,
+            len,
+        ),
+        handshake::FINISHED => open_whole::parse_tls_handshake_msg_finished(i, len),
+        handshake::CERTIFICATE_STATUS => open_fields::parse_tls_handshake_msg_certificatestatus(i),
+        handshake::KEY_UPDATE => open_fields::parse_tls_handshake_msg_key_update(i),
+        handshake::NEXT_PROTOCOL => open_fields::parse_tls_handshake_msg_next_protocol(i),
         0x03 | 0x07..=0x0a | 0x11..=0x13 | 0x15 | 0x17 | 0x19..=0x42 | 0x44..=0xff =>
             MessageAnswer::Refused(refusal::unplaced(Reason::Switch)),
     }
 }
 
-// The body of a message of a type, opened.
+// Opens a body by its type, its length being that of the bytes.
 pub fn parse_tls_handshake_body(msg_type: u8, body: &[u8]) -> MessageAnswer
     ensures { λ r. ⌜ messageSays r ≡ byType «msg_type» (now (body .entry)) ⌝ }
 {
     parse_tls_handshake_msg(msg_type, body, body.len())
 }
 
-// The message at the front; its views are of its body, and `parse_tls_message_head` tells where that lies and where the rest begins.
+// The message at the front; its views are of its body, and `parse_tls_message_head` tells where
+// that lies and where the rest begins.
 pub fn parse_tls_message_handshake(i: &[u8]) -> MessageAnswer
     ensures { λ r. ⌜ messageSays r ≡ message (now (i .entry)) ⌝ }
 {

@@ -47,38 +47,51 @@ pub unless-fails : (t : Bool) (x : ℕ → ℕ → Refusal) (at next : ℕ) (p :
 unless-fails true x at next p q e = let z : _≡_ {A = ℕ} 0 1 = cc in absurd (omega arith)
 unless-fails false x at next p q e = ap refused (sym q)
 
-pub ruled-in : (r : Rule) (s : List ℕ) (at next n : ℕ) → r .broken n ≡ none → ruled r s at next n ≡ partAt (r .past) s next n
+pub ruled-in : (r : Rule) (s : List ℕ) (at next n : ℕ) → r .broken n ≡ none
+    → ruled r s at next n ≡ partAt (r .past) s next n
 unfolding ruled
 ruled-in r s at next n e = rw e
 
-pub ruled-out : (r : Rule) (s : List ℕ) (at next n : ℕ) (x : ℕ → ℕ → Refusal) → r .broken n ≡ some x → ruled r s at next n ≡ refused (x at next)
+pub ruled-out : (r : Rule) (s : List ℕ) (at next n : ℕ) (x : ℕ → ℕ → Refusal) → r .broken n ≡ some x
+    → ruled r s at next n ≡ refused (x at next)
 unfolding ruled
 ruled-out r s at next n x e = rw e
 
-pub ruled-accepted : (r : Rule) (s : List ℕ) (at next n : ℕ) {q : Part} → ruled r s at next n ≡ accepted q → (r .broken n ≡ none) × (partAt (r .past) s next n ≡ accepted q)
+pub ruled-accepted : (r : Rule) (s : List ℕ) (at next n : ℕ) {q : Part} → ruled r s at next n ≡ accepted q
+    → (r .broken n ≡ none) × (partAt (r .past) s next n ≡ accepted q)
 ruled-accepted r s at next n {q} e = go (r .broken n) refl
   where
-    go : (o : Option (ℕ → ℕ → Refusal)) → r .broken n ≡ o → (r .broken n ≡ none) × (partAt (r .past) s next n ≡ accepted q)
+    go : (o : Option (ℕ → ℕ → Refusal)) → r .broken n ≡ o → (r .broken n ≡ none)
+        × (partAt (r .past) s next n ≡ accepted q)
     go none a = (a, sym (ruled-in r s at next n a) ∙ e)
     go (some x) a = absurd (not-both e (ruled-out r s at next n x a))
 
 pub ruled-refused : (r : Rule) (s : List ℕ) (at next n : ℕ) {y : Refusal} → ruled r s at next n ≡ refused y
-    → ((x : ℕ → ℕ → Refusal) × (r .broken n ≡ some x) × (y ≡ x at next)) ⊎ ((r .broken n ≡ none) × (partAt (r .past) s next n ≡ refused y))
+    → ((x : ℕ → ℕ → Refusal) × (r .broken n ≡ some x) × (y ≡ x at next)) ⊎
+    ((r .broken n ≡ none) × (partAt (r .past) s next n ≡ refused y))
 ruled-refused r s at next n {y} e = go (r .broken n) refl
   where
     go : (o : Option (ℕ → ℕ → Refusal)) → r .broken n ≡ o
-        → ((x : ℕ → ℕ → Refusal) × (r .broken n ≡ some x) × (y ≡ x at next)) ⊎ ((r .broken n ≡ none) × (partAt (r .past) s next n ≡ refused y))
+        → ((x : ℕ → ℕ → Refusal) × (r .broken n ≡ some x) × (y ≡ x at next)) ⊎
+        ((r .broken n ≡ none) × (partAt (r .past) s next n ≡ refused y))
     go none a = inr (a, sym (ruled-in r s at next n a) ∙ e)
-    go (some x) a = inl (x, a, let d : _≡_ {A = Answer Part} (refused (x at next)) (refused y) = sym (ruled-out r s at next n x a) ∙ e in cc)
+    go (some x) a =
+        inl (
+          x,
+          a,
+          let d : _≡_ {A = Answer Part} (refused (x at next)) (refused y) = sym (ruled-out r s at next n x a)
+              ∙ e in cc,
+        )
 
--- where the part of a counted field lies, and that its length is allowed
+-- where the part of a vector lies, and that its length is allowed
 pub record Lies (w : ℕ) (r : Rule) (s : List ℕ) (at : ℕ) (p : Part) : Type 0 where
   pub start : p .view .start ≡ at + w
   pub next : p .next ≡ at + w + p .view .len
   pub inside : p .next ≤ length s
   pub allowed : r .broken (p .view .len) ≡ none
 
-pub vector-lies : (w : ℕ) (r : Rule) (s : List ℕ) (at : ℕ) {p : Part} → step (vector w r) s at ≡ accepted p → Lies w r s at p
+pub vector-lies : (w : ℕ) (r : Rule) (s : List ℕ) (at : ℕ) {p : Part} → step (vector w r) s at ≡ accepted p
+    → Lies w r s at p
 unfolding step
 vector-lies w r s at e =
     let t = then-accepted (numberAt w s at) (λ l. ruled r s at (l .next) (l .value)) e in
@@ -88,7 +101,8 @@ vector-lies w r s at e =
     rw (g .is) (record { start = refl; next = refl; inside = g .inside; allowed = u .0 })
 
 -- a field that was found takes them, and lies within the bytes
-pub step-in : (f : Field) (s : List ℕ) (at : ℕ) {p : Part} → step f s at ≡ accepted p → (at + least f ≤ p .next) × (p .next ≤ length s)
+pub step-in : (f : Field) (s : List ℕ) (at : ℕ) {p : Part} → step f s at ≡ accepted p → (at + least f ≤ p .next)
+    × (p .next ≤ length s)
 unfolding step
 step-in (fixed n) s at e =
     let g = fits _ s at n e in
@@ -100,13 +114,15 @@ unfolding step
 fixed-in n s at h = part-in Incomplete s at n h
 
 -- a number is a fixed part of its width
-pub number-field : (w : ℕ) (s : List ℕ) (at : ℕ) {l : Number} → numberAt w s at ≡ accepted l → step (fixed w) s at ≡ accepted (record { view = record { start = at; len = w }; next = l .next })
+pub number-field : (w : ℕ) (s : List ℕ) (at : ℕ) {l : Number} → numberAt w s at ≡ accepted l
+    → step (fixed w) s at ≡ accepted (record { view = record { start = at; len = w }; next = l .next })
 unfolding step
 number-field w s at e =
     let n = number-is w s at e in
     part-in Incomplete s at w (n .inside) ∙ rw (n .is)
 
-pub number-field-no : (w : ℕ) (s : List ℕ) (at : ℕ) {r : Refusal} → numberAt w s at ≡ refused r → step (fixed w) s at ≡ refused r
+pub number-field-no : (w : ℕ) (s : List ℕ) (at : ℕ) {r : Refusal} → numberAt w s at ≡ refused r
+    → step (fixed w) s at ≡ refused r
 unfolding step
 number-field-no w s at e =
     let n = number-short w s at e in

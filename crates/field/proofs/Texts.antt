@@ -46,27 +46,36 @@ text-not f p e = rw e
 pub text-obeys : (f : Field) (p : List ℕ) → Obeys f p → fieldText f p ≡ accepted (fieldBytes f p)
 text-obeys f p o = text-may f p (obeyed f p o)
 
--- with its length, a part that may be written can be counted
+-- with its length, a part that may be written is below 2^32 bytes
 pub below : (w : ℕ) (r : Rule) (n : ℕ) → w ≤ 4 → allowed (vector w r) n ≡ true → n < 4294967296
 below w r n h e = omega (arith, ltb-true n (256 ^ w) (both-true _ _ e .0), pow-le-pow-right {n = 256} (omega arith) h)
 
--- writing a counted part: of a length that is not allowed, without room, and put in, its length first
+-- writing a vector: of a length that is not allowed, without room, and put in, its length
+-- first
 module _ (w : ℕ) (r : Rule) (p : List ℕ) (at : ℕ) (d : List ℕ) where
-  pub vector-not : allowed (vector w r) (length p) ≡ false → Came (fieldText (vector w r) p) at d (refused (unplaced (r .unfit))) d
+  pub vector-not : allowed (vector w r) (length p) ≡ false
+      → Came (fieldText (vector w r) p) at d (refused (unplaced (r .unfit))) d
   vector-not e = text-refused at d (text-not (vector w r) p e)
 
-  pub vector-out : {x : Refusal} → allowed (vector w r) (length p) ≡ true → roomAt d at (w + length p) ≡ refused x → Came (fieldText (vector w r) p) at d (refused x) d
-  vector-out {x} e q = text-out (fieldBytes (vector w r) p) at d {r = x} (text-may (vector w r) p e) (rw (length-vector w r p) q)
+  pub vector-out : {x : Refusal} → allowed (vector w r) (length p) ≡ true → roomAt d at (w + length p) ≡ refused x
+      → Came (fieldText (vector w r) p) at d (refused x) d
+  vector-out {x} e q =
+      text-out (fieldBytes (vector w r) p) at d {r = x} (text-may (vector w r) p e) (rw (length-vector w r p) q)
 
-  pub vector-in : {x : Part} (o o′ : List ℕ) → allowed (vector w r) (length p) ≡ true → roomAt d at (w + length p) ≡ accepted x
-      → o ≡ written (numberText w (length p)) at d → o′ ≡ written (accepted p) (at + w) o → Came (fieldText (vector w r) p) at d (accepted (x .next)) o′
+  pub vector-in : {x : Part} (o o′ : List ℕ) → allowed (vector w r) (length p) ≡ true
+      → roomAt d at (w + length p) ≡ accepted x
+      → o ≡ written (numberText w (length p)) at d → o′ ≡ written (accepted p) (at + w) o
+      → Came (fieldText (vector w r) p) at d (accepted (x .next)) o′
   vector-in {x} o o′ e q e₁ e₂ =
       let h = room-fits d at (w + length p) q .inside in
       let l = length-bytes w (length p) in
       let n : o ≡ put d at (bytesOf w (length p)) =
-      e₁ ∙ written-in (bytesOf w (length p)) at d (number-accepted w (length p) (obeys (vector w r) p e .0)) (rw l (omega arith)) in
+      e₁ ∙ written-in (bytesOf w (length p)) at d (number-accepted w (length p) (obeys (vector w r) p e .0))
+      (rw l (omega arith)) in
       let m : length o ≡ length d = rw n (length-put d at (bytesOf w (length p)) (rw l (omega arith))) in
-      let c = text-in (fieldBytes (vector w r) p) at d {p = x} (text-may (vector w r) p e) (rw (length-vector w r p) q) in
+      let c = text-in (fieldBytes (vector w r) p) at d {p = x} (text-may (vector w r) p e)
+      (rw (length-vector w r p) q) in
       let b : o′ ≡ put d at (bytesOf w (length p) ++ p) =
-      e₂ ∙ written-in p (at + w) o refl (rw m (omega arith)) ∙ rw n (rw l at (put-put d at (bytesOf w (length p)) p (rw l (omega arith)))) in
+      e₂ ∙ written-in p (at + w) o refl (rw m (omega arith))
+      ∙ rw n (rw l at (put-put d at (bytesOf w (length p)) p (rw l (omega arith)))) in
       record { says = c .says; leaves = c .leaves ∙ sym b }

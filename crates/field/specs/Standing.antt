@@ -1,15 +1,16 @@
--- A field in the bytes, with no reader in it: what its bytes are, which parts it may have, where the part lies, and what it is for the
--- bytes to lack it. RFC 5246 4.3.
+-- A field in the bytes, with no reader in it: what its bytes are, which parts it may have, where
+-- the part lies, and what it is for the bytes to lack it. RULES 2.2, 9.4; RFC 5246 4.3.
 use Rattle.refusal.specs.{ℕ, _+_, _-_, _^_, _<_, _≡_, _⊎_, List, _++_, none, some, length, refusal, Reason, Incomplete, Refusal}
 use Rattle.wire.specs.{bytesOf, View}
 use Rattle.field.specs.Fields.{Field, fixed, vector, Rule}
 
--- a field's bytes: the part, behind its length where it is counted
+-- a field's bytes: the part, behind its length where it is a vector
 abbrev pub fieldBytes : Field → List ℕ → List ℕ
 fieldBytes (fixed n) p = p
 fieldBytes (vector w r) p = bytesOf w (length p) ++ p
 
--- the part is one of the field: of the fixed length, or of one that w bytes can hold and that gets no refusal
+-- the part is one of the field: of the fixed length, or of one that w bytes can hold and that gets
+-- no refusal
 abbrev pub Obeys : Field → List ℕ → Type 0
 Obeys (fixed n) p = length p ≡ n
 Obeys (vector w r) p = (length p < 256 ^ w) × (r .broken (length p) ≡ none)
@@ -41,8 +42,9 @@ BadPart k n at behind b r =
     ((no : ℕ → ℕ → Refusal) × (k .broken n ≡ some no) × (r ≡ no at behind))
     ⊎ ((k .broken n ≡ none) × TooFew (k .past) n behind b r)
 
--- the bytes left at a place lack the field, and this is the refusal set for it: they are too few for the part, or for its length, or the
--- length that stands there is refused, or too few bytes follow it
+-- the bytes left at a place lack the field, and this is the refusal set for it: they are too few
+-- for the part, or for its length, or the length that stands there is refused, or too few bytes
+-- follow it
 abbrev pub Lacks : Field → ℕ → List ℕ → Refusal → Type 0
 Lacks (fixed n) at b r = TooFew Incomplete n at b r
 Lacks (vector w k) at b r =

@@ -1,4 +1,5 @@
--- A field written: document 01, "What may be written". Its bytes are those that a reader splits off, `fieldBytes`.
+-- A field written: RULES 2.4, 7.2; RFC 5246 4.3. Its bytes are those that a reader splits off,
+-- `fieldBytes`.
 use Rattle.refusal.specs.{ℕ, _^_, List, Bool, _&&_, true, false, length, ltb, eqb, unplaced, Answer, accepted, refused, Reason, BadLength}
 use Rattle.wire.specs.{pick, ifSome}
 use Rattle.field.specs.Fields.{Field, fixed, vector, Rule}

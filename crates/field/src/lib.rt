@@ -16,7 +16,7 @@ use wire::number::Width;
 use wire::output::WriteAnswer;
 use wire::view::PartAnswer;
 
-// What stands behind a length, which decides the rule of its length.
+// Names the rule that a length is held to, by what stands behind it.
 pub enum RuleName {
     Plain,
     SessionId,
@@ -25,7 +25,7 @@ pub enum RuleName {
     Fragment,
 }
 
-// The next `n` bytes.
+// Takes the `n` bytes from `at` on, or answers Incomplete.
 pub fn take(s: &[u8], at: usize, n: usize) -> PartAnswer
     ensures { λ r. ⌜ partSays r ≡ step (Field.fixed n) (now (s .entry)) at ⌝ }
 {
@@ -37,14 +37,15 @@ fn allows(rule: RuleName, n: usize) -> bool
 {
     match rule {
         RuleName::Plain => true,
-        RuleName::SessionId => n <= 32,
+        RuleName::SessionId => n <= registry::limit::SESSION_ID,
         RuleName::Ciphers => n % 2 == 0,
         RuleName::Methods => true,
-        RuleName::Fragment => n <= 16_640,
+        RuleName::Fragment => n <= registry::limit::FRAGMENT,
     }
 }
 
-// The refusal of a length that the rule does not allow: the length stands at `at`, its bytes begin at `next`.
+// The refusal of a length that the rule does not allow: the length stands at `at`, its bytes begin
+// at `next`.
 fn broken(rule: RuleName, at: usize, next: usize) -> Refusal
     ensures { λ r. ⌜ ((s : List ℕ) (n : ℕ) → allows (ruleOf rule) n ≡ false → ruled (ruleOf rule) s at next n ≡ Answer.refused r) ⌝ }
 {
@@ -70,7 +71,7 @@ fn past(rule: RuleName) -> Reason
     }
 }
 
-// A part behind its length.
+// Takes the part behind its length at `at`; the length is held to the rule.
 pub fn length_data(s: &[u8], at: usize, w: Width, rule: RuleName) -> PartAnswer
     ensures { λ r. ⌜ partSays r ≡ step (Field.vector (bytesIn w) (ruleOf rule)) (now (s .entry)) at ⌝ }
 {
@@ -111,8 +112,15 @@ fn unfit(rule: RuleName) -> Reason
     }
 }
 
-// Writes a part behind its length: the refusal of a length that may not be written, then NoRoom. A refusal changes no byte.
-pub fn gen_length_data(out: &mut [u8], at: usize, w: Width, rule: RuleName, part: &[u8]) -> WriteAnswer
+// Writes a part behind its length: the refusal of a length that may not be written, then NoRoom. A
+// refusal changes no byte.
+pub fn gen_length_data(
+    out: &mut [u8],
+    at: usize,
+    w: Width,
+    rule: RuleName,
+    part: &[u8],
+) -> WriteAnswer
     ensures { λ r. ⌜ writeSays r ≡ room (fieldText (Field.vector (bytesIn w) (ruleOf rule)) (now (part .entry))) at (now (out .entry)) ⌝ }
     ensures { λ _. ⌜ now (out .exit) ≡ written (fieldText (Field.vector (bytesIn w) (ruleOf rule)) (now (part .entry))) at (now (out .entry)) ⌝ }
 {

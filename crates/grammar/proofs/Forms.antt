@@ -31,18 +31,26 @@ read-any g s h e =
 
 module _ {C : Type 0} (k : Form C) (l : Lawful k) (s : List ℕ) (b : Bytes s) where
   -- an accepted value is made of what was handed out
-  made : (c : C) → reading k s ≡ accepted c → (h : Handed (k .grammar)) × (read (k .grammar) s ≡ accepted h) × (valueOf k s h ≡ c)
+  made : (c : C) → reading k s ≡ accepted c → (h : Handed (k .grammar)) × (read (k .grammar) s ≡ accepted h)
+      × (valueOf k s h ≡ c)
   unfolding reading
   made c e = let t = then-accepted (read (k .grammar) s) (λ h. accepted (valueOf k s h)) e in (t .0, t .1, cc (t .2))
 
   block-back : (h : Handed (k .grammar)) → read (k .grammar) s ≡ accepted h → k .block (valueOf k s h) ≡ h .block
-  block-back h e = rw (read-any (k .grammar) s h e) at (l .block (outs (k .grammar .rows) s (h .views)) (h .block) (h .tail))
+  block-back h e =
+      rw (read-any (k .grammar) s h e) at (l .block (outs (k .grammar .rows) s (h .views)) (h .block) (h .tail))
 
   -- and names its pieces
-  names : (h : Handed (k .grammar)) → read (k .grammar) s ≡ accepted h → Split (k .grammar) s (piecesOf (k .grammar) s h) → pieces k s (valueOf k s h) ≡ piecesOf (k .grammar) s h
+  names : (h : Handed (k .grammar)) → read (k .grammar) s ≡ accepted h
+      → Split (k .grammar) s (piecesOf (k .grammar) s h) → pieces k s (valueOf k s h) ≡ piecesOf (k .grammar) s h
   names h e y =
       let o = outs (k .grammar .rows) s (h .views) in
-      rw (l .handed o (h .block) (h .tail), block-back h e, l .tail o (h .block) (h .tail), all-named (k .grammar .rows) (l .suits) s (h .views) b (y .obey))
+      rw (
+        l .handed o (h .block) (h .tail),
+        block-back h e,
+        l .tail o (h .block) (h .tail),
+        all-named (k .grammar .rows) (l .suits) s (h .views) b (y .obey),
+      )
 
   value-splits : (c : C) → reading k s ≡ accepted c → Split (k .grammar) s (pieces k s c)
   value-splits c e =
@@ -59,7 +67,8 @@ module _ {C : Type 0} (k : Form C) (l : Lawful k) (s : List ℕ) (b : Bytes s) w
       rw (← (m .2), l .handed o (h .block) (h .tail), block-back h (m .1), l .tail o (h .block) (h .tail))
       (all-in-row (k .grammar .rows) s (h .views) (h .block) 0 (h .tail) (r .0), r .1)
 
-  value-accepts : (x : Pieces (k .grammar)) → Split (k .grammar) s x → reading k s ≡ accepted (valueOf k s (handedOf (k .grammar) x))
+  value-accepts : (x : Pieces (k .grammar)) → Split (k .grammar) s x
+      → reading k s ≡ accepted (valueOf k s (handedOf (k .grammar) x))
   unfolding reading
   value-accepts x y = rw (accepts (k .grammar) s b x y)
 
@@ -71,7 +80,9 @@ module _ {C : Type 0} (k : Form C) (l : Lawful k) (s : List ℕ) (b : Bytes s) w
   unfolding reading
   value-lacks r e = go (then-refused (read (k .grammar) s) (λ h. accepted (valueOf k s h)) e)
     where
-      go : (read (k .grammar) s ≡ refused r) ⊎ ((h : Handed (k .grammar)) × (read (k .grammar) s ≡ accepted h) × (_≡_ {A = Answer C} (accepted (valueOf k s h)) (refused r))) → FirstLacks (k .grammar .rows) 0 s r
+      go : (read (k .grammar) s ≡ refused r) ⊎
+          ((h : Handed (k .grammar)) × (read (k .grammar) s ≡ accepted h)
+          × (_≡_ {A = Answer C} (accepted (valueOf k s h)) (refused r))) → FirstLacks (k .grammar .rows) 0 s r
       go (inl x) = lacks (k .grammar) s b r x
       go (inr (h, x, z)) = absurd (not-both refl z)
 

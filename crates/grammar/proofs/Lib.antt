@@ -3,3 +3,4 @@ pub mod Outs
 pub mod Forms
 pub mod Versions
 pub mod Chain
+pub mod Numbers

@@ -1,4 +1,5 @@
--- Demand 3, its reading half, where the version announces the form, over every listing of lawful forms. Assumes nothing.
+-- Demand 3, its reading half, where the version announces the form, over every listing of lawful
+-- forms. Assumes nothing.
 use Prim.Native.Nat.{ℕ, _≤_}
 use mathlib.Core.Path.{_≡_, _∙_}
 use mathlib.Core.Bool.{Bool, true, false}
@@ -35,7 +36,8 @@ AllLawful [] = Unit
 AllLawful ((n, k) ∷ forms) = Lawful k × AllLawful forms
 
 -- a form that is found is one of those listed
-pub listed-lawful : {C : Type 0} (forms : Listing C) → AllLawful forms → (v : ℕ) (k : Form C) → lookup v forms ≡ some k → Lawful k
+pub listed-lawful : {C : Type 0} (forms : Listing C) → AllLawful forms → (v : ℕ) (k : Form C)
+    → lookup v forms ≡ some k → Lawful k
 listed-lawful {C = C} [] l v k e =
     let f : _≡_ {A = Option (Form C)} none (some k) = e in
     let z : _≡_ {A = ℕ} 0 1 = cc in

@@ -1,5 +1,5 @@
--- Demand 3, its reading half, for every form: what is shown of the reading. Splits and lacks are those of `Splits.antt`, with no reader in
--- them.
+-- Demand 3, its reading half, for every form: what is shown of the reading. RULES 0.3, 3.1, 3.10 to
+-- 3.12. Splits and lacks are those of `Splits.antt`, with no reader in them.
 use Rattle.refusal.specs.{ℕ, _+_, _≤_, _≡_, Option, none, some, _⊎_, List, [], _∷_, length, refusal, accepted, refused, Incomplete, Tag, Refusal}
 use Rattle.wire.specs.{lookup, Bytes, be, OptView, Absent, View}
 use Rattle.field.specs.{Field, fixed, TooFew}
@@ -18,7 +18,8 @@ abbrev pub ifAny : Option Field → OptView → OptView
 ifAny none e = Absent
 ifAny (some f) e = e
 
--- what is asked of a form: its value gives back what it was made of, and its numbers are fixed fields of their width
+-- what is asked of a form: its value gives back what it was made of, and its numbers are fixed
+-- fields of their width
 pub record Lawful {C : Type 0} (k : Form C) : Type 0 where
   pub suits : Each Suits (k .grammar .rows)
   pub handed : (o : Outs (k .grammar .rows)) (e : OptView) (t : ℕ) → k .handed (k .value o e t) ≡ o
@@ -40,7 +41,8 @@ pub record BySplit {C : Type 0} (k : Form C) (body : List ℕ) : Type 0 where
   pub splits : (c : C) → reading k body ≡ accepted c → Split (k .grammar) body (pieces k body c)
   -- the split is the only one
   pub only : (x y : Pieces (k .grammar)) → Split (k .grammar) body x → Split (k .grammar) body y → x ≡ y
-  -- the views handed out lie in field order, without overlap, before the tail, which begins in the body or at its end
+  -- RULES 3.11: the views handed out lie in the order of the fields, none over another, before the
+  -- tail, which begins in the body or at its end
   pub order : (c : C) → reading k body ≡ accepted c → InRow 0 (views k c) (k .tail c) × (k .tail c ≤ length body)
   -- a body that lacks a field is refused with the refusal set for the first
   pub refuses : (r : Refusal) → FirstLacks (k .grammar .rows) 0 body r → reading k body ≡ refused r
@@ -51,7 +53,8 @@ pub record BySplit {C : Type 0} (k : Form C) (body : List ℕ) : Type 0 where
 abbrev pub EveryForm : Type 0 → Type 0
 EveryForm C = (k : Form C) → Lawful k → (body : List ℕ) → Bytes body → BySplit k body
 
--- the same where the version announces the form: a body has a listed version, one that is not listed, or none
+-- the same where the version announces the form: a body has a listed version, one that is not
+-- listed, or none
 pub record ByVersion {C : Type 0} (forms : Listing C) (body : List ℕ) : Type 0 where
   -- a body whose version is listed is read by the form announced, of which the theorem holds
   pub listed : (k : Form C) → Announces forms body k → (byVersion forms body ≡ reading k body) × BySplit k body
@@ -60,6 +63,7 @@ pub record ByVersion {C : Type 0} (forms : Listing C) (body : List ℕ) : Type 0
   -- one without a version is refused for it
   pub short : (r : Refusal) → TooFew Incomplete 2 0 body r → byVersion forms body ≡ refused r
 
--- the theorem: every listing of lawful forms of any contents, every body of bytes; shown by `proofs/Versions.antt`
+-- the theorem: every listing of lawful forms of any contents, every body of bytes; shown by
+-- `proofs/Versions.antt`
 abbrev pub EveryListing : Type 0 → Type 0
 EveryListing C = (forms : Listing C) → ((v : ℕ) (k : Form C) → lookup v forms ≡ some k → Lawful k) → (body : List ℕ) → Bytes body → ByVersion forms body

@@ -1,5 +1,6 @@
--- What is handed out of a body as a value of the code, a hello's contents. A form has its grammar and the value made of what each row hands
--- out; and a value tells what it was made of. From this, and with no reader, the pieces and the views that a value names.
+-- What is handed out of a body as a value of the code, a hello's contents: RULES 3.9, 3.10, 3.12. A
+-- form has its grammar and the value made of what each row hands out; and a value tells what it was
+-- made of. From this, and with no reader, the pieces and the views that a value names.
 use Rattle.refusal.specs.{ℕ, _≤_, List, [], _∷_, true, false, drop, length, eqb, _≡_, Option, none, some, refusal, Answer, then, refused, Tag, giving}
 use Rattle.wire.specs.{pick, partOf, optPartOf, lookup, be, bytesOf, numberAt, OptView, Absent, Present, View}
 use Rattle.grammar.specs.Grammars.{How, asView, asOpt, asNumber, Row, Grammar, Each, each, gather, Views, Parts, Handed}
@@ -12,7 +13,7 @@ Out asView = View
 Out (asOpt empty) = OptView
 Out (asNumber w) = ℕ
 
--- document 01: "Id length 0 gives an absent id"
+-- RULES 3.9: a session id of length 0 is absent
 abbrev pub absentIfEmpty : View → OptView
 absentIfEmpty v = pick (eqb (v .len) 0) Absent (Present v)
 
@@ -23,7 +24,8 @@ out (asOpt true) s v = Present v
 out (asOpt false) s v = absentIfEmpty v
 out (asNumber w) s v = be w s (v .start)
 
--- the bytes that a thing handed out names: those of its view, none where it is absent, the bytes of a number
+-- the bytes that a thing handed out names: those of its view, none where it is absent, the bytes of
+-- a number
 abbrev pub named : (m : How) → List ℕ → Out m → List ℕ
 named asView s v = partOf s v
 named (asOpt empty) s o = optPartOf s o
@@ -53,8 +55,8 @@ allNamed rs s os = each (λ (f, m) o. named m s o) rs os
 abbrev pub allSeen : (rs : List Row) → Outs rs → List View → List View
 allSeen rs os after = gather (λ (f, m) o vs. seen m o vs) after rs os
 
--- how a body becomes a value: its grammar; the value made of what the rows hand out, the block and where the tail begins; and these three
--- back from a value
+-- how a body becomes a value: its grammar; the value made of what the rows hand out, the block and
+-- where the tail begins; and these three back from a value
 pub record Form (C : Type 0) : Type 0 where
   pub grammar : Grammar
   pub value : Outs (grammar .rows) → OptView → ℕ → C
@@ -86,7 +88,8 @@ abbrev pub ifListed : {C : Type 0} → Option (Form C) → List ℕ → Answer C
 ifListed (some k) s = reading k s
 ifListed none s = refused (refusal Tag 0 0)
 
--- "The ServerHello version is looked at before anything else; under 2 bytes is Incomplete"; Tag for one that is not listed
+-- RULES 3.10: the version comes before all else; with fewer than 2 bytes it is Incomplete, and one
+-- that is not listed is Tag
 unfoldable pub byVersion : {C : Type 0} → Listing C → List ℕ → Answer C
 byVersion forms s = then (numberAt 2 s 0) (λ v. ifListed (lookup (v .value) forms) s)
 

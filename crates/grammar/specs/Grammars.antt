@@ -1,11 +1,11 @@
--- A grammar is data: rows in order, and an optional last block. Document 01: "Checks go in field order"; extensions are taken "if both are
--- there", length and bytes.
+-- A grammar is data: rows in order, and an optional last block. RULES 3.1: fields are checked in
+-- their order; 3.7, RFC 5246 7.4.1.4: extensions are a block.
 use Rattle.refusal.specs.{ℕ, List, [], _∷_, Bool, Option}
 use Rattle.wire.specs.{OptView, View}
 use Rattle.field.specs.{Field}
 
--- a field is handed out as a view, as a part that may be absent (`asOpt true`: an empty one is present; `asOpt false`: it is absent), or as
--- a number of w bytes
+-- a field is handed out as a view, as a part that may be absent (`asOpt true`: an empty one is
+-- present; `asOpt false`: it is absent), or as a number of w bytes
 pub data How : Type 0 where
   asView : How
   asOpt : Bool → How

@@ -1,7 +1,9 @@
--- The grammars of the three hellos: document 01, "The grammar of the three hellos"; RFC 5246 7.4.1.2 (ClientHello), 7.4.1.3 (ServerHello),
--- 7.4.1.4 (extensions). The draft 18 hello is draft-ietf-tls-tls13-18's, 4.1.3.
+-- The grammars of the three hellos: RULES 3.2 to 3.5 and 3.7; RFC 5246 7.4.1.2 (ClientHello),
+-- 7.4.1.3 (ServerHello), 7.4.1.4 (extensions), draft-ietf-tls-tls13-18 4.1.3 (the hello of draft
+-- 18).
 use Rattle.refusal.specs.{[], _∷_, Bool, false, none, some}
 use Rattle.wire.specs.{pick}
+use Rattle.registry.specs.Limits.{randomLength}
 use Rattle.field.specs.{Field, fixed, vector, sized, ruleOf, SessionId, Ciphers, Methods}
 use Rattle.grammar.specs.Grammars.{Row, asView, asOpt, asNumber, Grammar}
 
@@ -9,17 +11,17 @@ abbrev pub version : Row
 version = (fixed 2, asNumber 2)
 
 abbrev pub random : Row
-random = (fixed 32, asView)
+random = (fixed randomLength, asView)
 
--- id length 1 (0 to 32), id; "Id length 0 gives an absent id"
+-- RULES 3.2: length 1, up to 32, and the id; 3.9: one of length 0 is absent
 abbrev pub sessionId : Row
 sessionId = (vector 1 (ruleOf SessionId), asOpt false)
 
--- cipher length 2 (even, 0 allowed), ciphers: a list of items `fixed 2`
+-- RULES 3.2: length 2, even and perhaps 0, and the ciphers, a list of items `fixed 2`
 abbrev pub ciphers : Row
 ciphers = (vector 2 (ruleOf Ciphers), asView)
 
--- compression length 1 (0 allowed), methods: a list of items `fixed 1`
+-- RULES 3.2: length 1, perhaps 0, and the methods, a list of items `fixed 1`
 abbrev pub methods : Row
 methods = (vector 1 (ruleOf Methods), asView)
 
@@ -29,14 +31,15 @@ cipher = (fixed 2, asNumber 2)
 abbrev pub compression : Row
 compression = (fixed 1, asNumber 1)
 
--- length 2 and that many bytes, if both are there
+-- RULES 3.7: length 2 and as many bytes, where all of it is there
 abbrev pub extensions : Field
 extensions = sized 2
 
 abbrev pub clientHello : Grammar
 clientHello = record { rows = version ∷ random ∷ sessionId ∷ ciphers ∷ methods ∷ []; block = some extensions }
 
--- at 0x0301 to 0x0303 with extensions; at 0x0300 they are never looked for: the Rust's HAS_EXT
+-- RULES 3.3: at 0x0301 to 0x0303 with extensions; 3.4: at 0x0300 nobody looks for them,
+-- tls-parser's HAS_EXT
 abbrev pub serverHello : Bool → Grammar
 serverHello hasExt = record { rows = version ∷ random ∷ sessionId ∷ cipher ∷ compression ∷ []; block = pick hasExt (some extensions) none }
 

@@ -1,4 +1,5 @@
--- What reading by a grammar finds: the fields in order, then the block where it fits. The first field that cannot be had refuses.
+-- What reading by a grammar finds: the fields in order, then the block where it fits. RULES 3.1,
+-- 3.7. The first field that cannot be had refuses.
 use Rattle.refusal.specs.{ℕ, List, [], _∷_, Option, none, some, Answer, accepted, refused, then, giving}
 use Rattle.wire.specs.{Absent, Present, Part}
 use Rattle.field.specs.{Field, step}
@@ -14,7 +15,7 @@ abbrev pub ifFits : Answer Part → ℕ → OptPart
 ifFits (accepted p) at = record { view = Present (p .view); next = p .next }
 ifFits (refused r) at = record { view = Absent; next = at }
 
--- the block where it fits; otherwise absent, and nothing is consumed for it
+-- RULES 3.7: the block where it fits; else it is absent, and no byte is taken for it
 unfoldable pub blockAt : Field → List ℕ → ℕ → OptPart
 blockAt f s at = ifFits (step f s at) at
 

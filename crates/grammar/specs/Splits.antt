@@ -1,6 +1,6 @@
--- What it is for a body to split by a grammar, or to lack a field of it, with no reader in it. Document 01, "How tightly the gauge is
--- fixed": "a split is stated as fields that, joined in order with their lengths and the tail, are the body". Of one field the bytes, the
--- parts it may have and its lack are in `field/specs/Standing.antt`.
+-- What it is for a body to split by a grammar, or to lack a field of it, with no reader in it.
+-- RULES 9.4: fields, joined in their order with their lengths and the tail, are the body. Of one
+-- field the bytes, the parts it may have and its lack are in `field/specs/Standing.antt`.
 use Rattle.refusal.specs.{ℕ, _+_, _≡_, _⊎_, List, [], _∷_, _++_, Option, none, some, length, Refusal}
 use Rattle.wire.specs.{partOf, OptView, Absent, Present}
 use Rattle.field.specs.{Field, fieldBytes, Obeys, viewOf, NoneAt, Lacks}
@@ -62,7 +62,8 @@ abbrev pub blockOf : List ℕ → OptView → Option (List ℕ)
 blockOf s Absent = none
 blockOf s (Present v) = some (partOf s v)
 
--- the first field that cannot be had: those before it stand in the bytes, and what follows them lacks it
+-- the first field that cannot be had: those before it stand in the bytes, and what follows them
+-- lacks it
 abbrev pub FirstLacks : List Row → ℕ → List ℕ → Refusal → Type 0
 FirstLacks [] at b r = ⊥
 FirstLacks ((f, m) ∷ rs) at b r =

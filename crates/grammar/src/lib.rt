@@ -14,7 +14,8 @@ pub struct OptPart {
     pub next: usize,
 }
 
-// The block behind its length where both are there. Otherwise it is absent, and nothing is consumed for it.
+// The block behind its length where both are there. Otherwise it is absent, and nothing is consumed
+// for it.
 pub fn opt_length_data(s: &[u8], at: usize, w: Width, rule: RuleName) -> OptPart
     ensures { λ r. ⌜ r ≡ blockAt (Field.vector (bytesIn w) (ruleOf rule)) (now (s .entry)) at ⌝ }
 {

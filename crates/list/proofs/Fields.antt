@@ -26,7 +26,8 @@ pub item-got : (f : Field) (s : List ℕ) (at : ℕ) {p : Part} → itemFrom f s
 unfolding itemFrom
 item-got f s at e = got (step f s at) e
 
-pub item-none : (f : Field) (s : List ℕ) (at : ℕ) {r : Refusal} → itemFrom f s at ≡ refused r → (x : Refusal) × (step f s at ≡ refused x) × (r ≡ refusal NoSuch 0 0)
+pub item-none : (f : Field) (s : List ℕ) (at : ℕ) {r : Refusal} → itemFrom f s at ≡ refused r → (x : Refusal)
+    × (step f s at ≡ refused x) × (r ≡ refusal NoSuch 0 0)
 unfolding itemFrom
 item-none f s at e = none (step f s at) e
 
@@ -48,6 +49,7 @@ module _ (f : Field) (one : 1 ≤ least f) (s : List ℕ) where
   pub begins : place 0 (items f s) ≡ itemFrom f s 0
   begins = rw (all-left f s) (item-first f one s 0)
 
-  pub goes-on : (n : ℕ) (p : Part) → place n (items f s) ≡ accepted p → place (suc n) (items f s) ≡ itemFrom f s (p .next)
+  pub goes-on : (n : ℕ) (p : Part) → place n (items f s) ≡ accepted p
+      → place (suc n) (items f s) ≡ itemFrom f s (p .next)
   unfolding itemFrom
   goes-on n p e = rw (all-left f s) (go-on (by-steps f one s) n 0 (rw (all-left f s) at e))

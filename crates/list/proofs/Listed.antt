@@ -26,7 +26,8 @@ module _ (f : Field) (one : 1 ≤ least f) (s : List ℕ) (b : Bytes s) where
   none-found at n = go (step f s at) refl
     where
       go : (a : Answer Part) → step f s at ≡ a → left f s at ≡ []
-      go (accepted p) e = let w = step-back f s at b e in absurd (n (partOf s (p .view)) (drop (p .next) s) (w .obeys) (w .bytes))
+      go (accepted p) e = let w =
+          step-back f s at b e in absurd (n (partOf s (p .view)) (drop (p .next) s) (w .obeys) (w .bytes))
       go (refused r) e = rest-end (by-steps f one s) at e
 
   -- the items that stand from a place on are handed out, and their bytes are the items
@@ -34,11 +35,13 @@ module _ (f : Field) (one : 1 ≤ least f) (s : List ℕ) (b : Bytes s) where
     where-they-stand : left f s at ≡ standing f at xs
     their-bytes : bytesHanded s (standing f at xs) ≡ xs
 
-  handed : (at : ℕ) (xs : List (List ℕ)) (r : List ℕ) → at ≤ length s → EachObeys f xs → drop at s ≡ joinItems f xs ++ r → NoneAt f r → Handed at xs
+  handed : (at : ℕ) (xs : List (List ℕ)) (r : List ℕ) → at ≤ length s → EachObeys f xs
+      → drop at s ≡ joinItems f xs ++ r → NoneAt f r → Handed at xs
   unfolding joinItems standing
   handed at [] r h o d n = record { where-they-stand = none-found at (rw d n); their-bytes = refl }
   handed at (x ∷ xs) r h (o, os) d n =
-      let e : drop at s ≡ fieldBytes f x ++ (joinItems f xs ++ r) = d ∙ append-assoc (fieldBytes f x) (joinItems f xs) r in
+      let e : drop at s ≡ fieldBytes f x ++ (joinItems f xs ++ r) = d
+      ∙ append-assoc (fieldBytes f x) (joinItems f xs) r in
       let i = handed (at + length (fieldBytes f x)) xs r (past-in f s at x _ h e) os (left-of f s at x _ e) n in
       record {
         where-they-stand = rest-on (by-steps f one s) at (step-of f s at x _ h o e) ∙ rw (i .where-they-stand);
@@ -54,14 +57,22 @@ module _ (f : Field) (one : 1 ≤ least f) (s : List ℕ) (b : Bytes s) where
 
   stands-end : (at : ℕ) {r : Refusal} → at ≤ length s → step f s at ≡ refused r → Stands at (left f s at)
   unfolding joinItems
-  stands-end at h e = rw (rest-end (by-steps f one s) at e) (record { remainder = drop at s; obey = tt; bytes = refl; stops = λ p t o d. not-both (step-of f s at p t h o d) e })
+  stands-end at h e =
+      rw (rest-end (by-steps f one s) at e)
+      (record {
+        remainder = drop at s;
+        obey = tt;
+        bytes = refl;
+        stops = λ p t o d. not-both (step-of f s at p t h o d) e;
+      })
 
   stands-on : (at : ℕ) (p : Part) (ps : List Part) → Found f s at p → Stands (p .next) ps → Stands at (p ∷ ps)
   unfolding joinItems
   stands-on at p ps w i = record {
     remainder = i .remainder;
     obey = (w .obeys, i .obey);
-    bytes = w .bytes ∙ rw (i .bytes) (sym (append-assoc (fieldBytes f (partOf s (p .view))) (joinItems f (bytesHanded s ps)) (i .remainder)));
+    bytes = w .bytes ∙ rw (i .bytes) (sym
+        (append-assoc (fieldBytes f (partOf s (p .view))) (joinItems f (bytesHanded s ps)) (i .remainder)));
     stops = i .stops;
   }
 
@@ -73,10 +84,12 @@ module _ (f : Field) (one : 1 ≤ least f) (s : List ℕ) (b : Bytes s) where
       go (refused r) e = stands-end at h e
   stands (suc fuel) at h k = go (λ n l m. stands fuel n l m) (step f s at) refl
     where
-      go : ((n : ℕ) → n ≤ length s → length s - n ≤ fuel → Stands n (left f s n)) → (a : Answer Part) → step f s at ≡ a → Stands at (left f s at)
+      go : ((n : ℕ) → n ≤ length s → length s - n ≤ fuel → Stands n (left f s n)) → (a : Answer Part)
+          → step f s at ≡ a → Stands at (left f s at)
       go ih (accepted p) e =
           let i = step-in f s at e in
-          rw (rest-on (by-steps f one s) at e) (stands-on at p (left f s (p .next)) (step-back f s at b e) (ih (p .next) (omega arith) (omega arith)))
+          rw (rest-on (by-steps f one s) at e)
+          (stands-on at p (left f s (p .next)) (step-back f s at b e) (ih (p .next) (omega arith) (omega arith)))
       go ih (refused r) e = stands-end at h e
 
   holds : (r : List ℕ) × Holds f s (bytesHanded s (items f s)) r
@@ -92,9 +105,23 @@ module _ (f : Field) (one : 1 ≤ least f) (s : List ℕ) (b : Bytes s) where
 
   only : (xs ys : List (List ℕ)) (r t : List ℕ) → Holds f s xs r → Holds f s ys t → (xs ≡ ys) × (r ≡ t)
   only xs ys r t x y =
-      let e : xs ≡ ys = sym (of-holds xs r x .their-bytes) ∙ ap (bytesHanded s) (sym (hands xs r x) ∙ hands ys t y) ∙ of-holds ys t y .their-bytes in
-      let d : joinItems f xs ++ r ≡ joinItems f xs ++ t = sym (x .whole) ∙ y .whole ∙ rw e in
-      (e, sym (drop-at (joinItems f xs) r _ refl) ∙ ap (drop (length (joinItems f xs))) d ∙ drop-at (joinItems f xs) t _ refl)
+      let e : xs ≡ ys = sym (of-holds xs r x .their-bytes) ∙ ap (bytesHanded s) (sym (hands xs r x) ∙ hands ys t y)
+      ∙ of-holds ys t y .their-bytes in
+      let d : joinItems f xs ++ r ≡ joinItems f xs ++ t = sym (x .whole) ∙ y .whole ∙ rw e in (
+        e,
+        sym (drop-at (joinItems f xs) r _ refl) ∙ ap (drop (length (joinItems f xs))) d
+            ∙ drop-at (joinItems f xs) t _ refl,
+      )
 
 pub by-items : (f : Field) → 1 ≤ least f → (s : List ℕ) → Bytes s → ByItems f s
-by-items f one s b = record { holds = holds f one s b; hands = hands f one s b; only = only f one s b; below = λ n. place-below n (items f s); past = λ n. place-past n (items f s); begins = begins f one s; goesOn = goes-on f one s }
+by-items f one s b =
+    record {
+      holds = holds f one s b;
+      hands = hands f one s b;
+      only = only f one s b;
+      below = λ n. place-below n (items f s);
+      past = λ n. place-past n (items f s);
+      begins =
+          begins f one s;
+      goesOn = goes-on f one s;
+    }

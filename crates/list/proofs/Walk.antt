@@ -1,5 +1,5 @@
--- A walk over whatever is found at one place after the other: what is left at a place, by what is found there. What is found at a place
--- ends behind it and within the bytes. Assumes nothing.
+-- A walk over whatever is found at one place after the other: what is left at a place, by what is
+-- found there. What is found at a place ends behind it and within the bytes. Assumes nothing.
 use Prim.Native.Nat.{ℕ, zero, suc, _+_, _-_, _<_, _≤_}
 use mathlib.Core.Path.{_≡_, refl, sym, _∙_}
 use mathlib.Core.List.{List, [], _∷_}
@@ -27,7 +27,8 @@ place-below zero (x ∷ xs) h = (x, refl)
 place-below (suc n) (x ∷ xs) h = place-below n xs (omega arith)
 
 -- behind nothing there is nothing
-pub none-after : {A : Type 0} (k : ℕ) (xs : List A) {r : Refusal} → place k xs ≡ refused r → place (suc k) xs ≡ refused (refusal NoSuch 0 0)
+pub none-after : {A : Type 0} (k : ℕ) (xs : List A) {r : Refusal} → place k xs ≡ refused r
+    → place (suc k) xs ≡ refused (refusal NoSuch 0 0)
 unfolding place
 none-after k [] e = refl
 none-after zero (x ∷ xs) e = absurd (not-both refl e)
@@ -42,7 +43,8 @@ pub got : {A : Type 0} (a : Answer A) {x : A} → orNoSuch a ≡ accepted x → 
 got (accepted y) e = e
 got (refused r) e = absurd (not-both e refl)
 
-pub none : {A : Type 0} (a : Answer A) {r : Refusal} → orNoSuch a ≡ refused r → (y : Refusal) × (a ≡ refused y) × (r ≡ refusal NoSuch 0 0)
+pub none : {A : Type 0} (a : Answer A) {r : Refusal} → orNoSuch a ≡ refused r → (y : Refusal) × (a ≡ refused y)
+    × (r ≡ refusal NoSuch 0 0)
 none (accepted y) e = absurd (not-both refl e)
 none {A} (refused y) {r} e = let d : _≡_ {A = Answer A} (refused (refusal NoSuch 0 0)) (refused r) = e in (y, refl, cc)
 
@@ -72,7 +74,8 @@ module _ {A : Type 0} {find : ℕ → Answer A} {past : A → ℕ} {n : ℕ} (mo
   fuel (suc k) zero at h l = none-past (suc k) at (omega arith)
   fuel (suc k) (suc m) at h l = go (λ p i j. fuel k m p i j) (find at) refl
     where
-      go : ((p : ℕ) → n - p ≤ k → n - p ≤ m → itemsFrom k find past p ≡ itemsFrom m find past p) → (a : Answer A) → find at ≡ a → itemsFrom (suc k) find past at ≡ itemsFrom (suc m) find past at
+      go : ((p : ℕ) → n - p ≤ k → n - p ≤ m → itemsFrom k find past p ≡ itemsFrom m find past p) → (a : Answer A)
+          → find at ≡ a → itemsFrom (suc k) find past at ≡ itemsFrom (suc m) find past at
       go ih (accepted x) e = let i = moves .on at _ e in rw (e, ih (past x) (omega arith) (omega arith))
       go ih (refused r) e = rw e
 
@@ -102,25 +105,30 @@ module _ {A : Type 0} {find : ℕ → Answer A} {past : A → ℕ} {n : ℕ} (mo
       go (refused r) e = rw (rest-end moves at e, e)
 
   -- one further
-  pub next : (at k j : ℕ) {x : A} → j < k → find at ≡ accepted x → place (k - j) (rest find past n at) ≡ place (k - (j + 1)) (rest find past n (past x))
+  pub next : (at k j : ℕ) {x : A} → j < k → find at ≡ accepted x
+      → place (k - j) (rest find past n at) ≡ place (k - (j + 1)) (rest find past n (past x))
   unfolding place
   next at k j h e =
       let d : k - j ≡ suc (k - (j + 1)) = omega arith in
       rw (d, rest-on moves at e)
 
   -- past the last
-  pub past-last : (at k : ℕ) {r : Refusal} → find at ≡ refused r → place k (rest find past n at) ≡ refused (refusal NoSuch 0 0)
+  pub past-last : (at k : ℕ) {r : Refusal} → find at ≡ refused r
+      → place k (rest find past n at) ≡ refused (refusal NoSuch 0 0)
   unfolding place
   past-last at k e = rw (rest-end moves at e)
 
   -- behind one stands what is found at its next place
-  pub go-on : (k at : ℕ) {x : A} → place k (rest find past n at) ≡ accepted x → place (suc k) (rest find past n at) ≡ orNoSuch (find (past x))
+  pub go-on : (k at : ℕ) {x : A} → place k (rest find past n at) ≡ accepted x
+      → place (suc k) (rest find past n at) ≡ orNoSuch (find (past x))
   unfolding place
   go-on zero at e =
       let q = got (find at) (sym (first at) ∙ e) in
       rw (rest-on moves at q) (first _)
   go-on (suc k) at {x} e = go (λ m y. go-on k m y) (find at) refl
     where
-      go : ((m : ℕ) → place k (rest find past n m) ≡ accepted x → place (suc k) (rest find past n m) ≡ orNoSuch (find (past x))) → (a : Answer A) → find at ≡ a → place (suc (suc k)) (rest find past n at) ≡ orNoSuch (find (past x))
+      go : ((m : ℕ) → place k (rest find past n m) ≡ accepted x
+          → place (suc k) (rest find past n m) ≡ orNoSuch (find (past x))) → (a : Answer A) → find at ≡ a
+          → place (suc (suc k)) (rest find past n at) ≡ orNoSuch (find (past x))
       go ih (accepted q) y = rw (rest-on moves at y) (ih (past q) (rw (rest-on moves at y) at e))
       go ih (refused r) y = absurd (not-both e (past-last at (suc k) y))

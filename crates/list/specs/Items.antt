@@ -1,5 +1,5 @@
--- Lists. Document 01: "A list inside its announced length ends at the first item that does not fit; the remainder is dropped." And its
--- table: NoSuch for "a list place at or past the count".
+-- The items of a list, and the one at a place: RULES 2.7, 2.8; RFC 5246 4.3. A list goes up to the
+-- first item that does not fit; from its count on there is NoSuch.
 use Rattle.refusal.specs.{ℕ, zero, suc, _≤_, _≡_, List, [], _∷_, length, refusal, Answer, accepted, refused, orElse, NoSuch, giving}
 use Rattle.wire.specs.{be, Number, Part}
 use Rattle.field.specs.{Field, step, least}
@@ -9,8 +9,9 @@ abbrev pub goOn : {A : Type 0} → Answer A → (A → List A) → List A
 goOn (accepted x) k = x ∷ k x
 goOn (refused r) k = []
 
--- the items from the byte `at` on, one behind the other until none is found: `find` looks at a byte, `past x` is the byte past x. At most n
--- of them: a bound for the recursion. Where each takes a byte at least, the length of the bytes never ends a list (`NoneMore`)
+-- the items from the byte `at` on, one behind the other until none is found: `find` looks at a
+-- byte, `past x` is the byte past x. At most n of them: a bound for the recursion. Where each takes
+-- a byte at least, the length of the bytes never ends a list (`NoneMore`)
 unfoldable pub itemsFrom : {A : Type 0} → ℕ → (ℕ → Answer A) → (A → ℕ) → ℕ → List A
 itemsFrom zero find past at = []
 itemsFrom (suc n) find past at = goOn (find at) (λ x. itemsFrom n find past (past x))

@@ -1,5 +1,6 @@
--- What the bytes of a list are, with no reader in it: the items joined in order with their lengths, then a remainder at whose front no item
--- stands. And what is shown of the items handed out.
+-- What the bytes of a list are, with no reader in it: the items joined in order with their lengths,
+-- then a remainder at whose front no item stands. RULES 2.7, 2.8; RFC 5246 4.3. And what is shown
+-- of the items handed out.
 use Rattle.refusal.specs.{ℕ, suc, _+_, _<_, _≤_, _≡_, List, [], _∷_, _++_, map, length, refusal, accepted, refused, NoSuch}
 use Rattle.wire.specs.{partOf, Part}
 use Rattle.field.specs.{Field, fieldBytes, Obeys, NoneAt, viewOf}
@@ -39,6 +40,7 @@ pub record ByItems (f : Field) (s : List ℕ) : Type 0 where
   -- there is an item at a place below the count, and at or past the count it is NoSuch
   pub below : (n : ℕ) → n < length (items f s) → (p : Part) × (place n (items f s) ≡ accepted p)
   pub past : (n : ℕ) → length (items f s) ≤ n → place n (items f s) ≡ refused (refusal NoSuch 0 0)
-  -- a walk from the front, each time from the place handed out, meets every item in order and then NoSuch
+  -- a walk from the front, each time from the place handed out, meets every item in order and then
+  -- NoSuch
   pub begins : place 0 (items f s) ≡ itemFrom f s 0
   pub goesOn : (n : ℕ) (p : Part) → place n (items f s) ≡ accepted p → place (suc n) (items f s) ≡ itemFrom f s (p .next)

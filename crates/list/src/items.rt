@@ -10,7 +10,8 @@ use refusal::Reason;
 use wire::number::Width;
 use wire::view::PartAnswer;
 
-// The item that begins at `at`, with the place of the next one: a walk over the whole list takes one call an item.
+// The item that begins at `at`, with the place of the next one: a walk over the whole list takes
+// one call an item.
 pub fn item_from(s: &[u8], at: usize, w: Width) -> PartAnswer
     ensures { λ r. ⌜ partSays r ≡ itemFrom (sized (bytesIn w)) (now (s .entry)) at ⌝ }
 {
@@ -20,6 +21,7 @@ pub fn item_from(s: &[u8], at: usize, w: Width) -> PartAnswer
     }
 }
 
+// Counts the items of a list, up to the first that does not fit.
 pub fn item_count(s: &[u8], w: Width) -> usize
     ensures { λ r. ⌜ r ≡ length (items (sized (bytesIn w)) (now (s .entry))) ⌝ }
 {

@@ -1,4 +1,5 @@
-// Numbers of one width: ciphers, methods, signature pairs, certificate types. Found without walking.
+// Numbers of one width: ciphers, methods, signature pairs, certificate types. Found without
+// walking.
 ghost use mathlib.Core.Path.{_≡_};
 ghost use lib.ListN.{length};
 ghost use Rattle.wire.specs.Numbers.{bytesIn, numberSays};
@@ -8,12 +9,14 @@ use refusal::Reason;
 use wire::number::NumberAnswer;
 use wire::number::Width;
 
+// Counts the numbers of a list; bytes that are too few for one more are dropped.
 pub fn number_count(s: &[u8], w: Width) -> usize
     ensures { λ r. ⌜ r ≡ length (items (Field.fixed (bytesIn w)) (now (s .entry))) ⌝ }
 {
     s.len() / wire::number::width_bytes(w)
 }
 
+// Reads the number at a place, counted from 0, and answers NoSuch from the count on.
 pub fn number_at(s: &[u8], w: Width, at: usize) -> NumberAnswer
     ensures { λ r. ⌜ numberSays r ≡ numberPlace at (bytesIn w) (now (s .entry)) ⌝ }
 {

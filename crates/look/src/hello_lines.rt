@@ -19,7 +19,8 @@ fn present(v: View, goes_on: bool) {
     }
 }
 
-// A hello that ends without extensions is told from one that goes on with bytes that are no whole block.
+// A hello that ends without extensions is told from one that goes on with bytes that are no whole
+// block.
 fn absent(goes_on: bool) {
     if goes_on {
         say::text(b"    extensions absent, and a tail follows: a block may have been cut off\n");
@@ -64,7 +65,7 @@ pub(crate) fn server(c: TlsServerHelloContents, s: &[u8], body: View) {
     say::opt_part(b"session id", s, body, id);
     say::field(b"cipher", c.cipher as usize, 4);
     say::field(b"compression", c.compression as usize, 2);
-    if c.version == 0x0300 {
+    if c.version as usize == registry::version::SSL30 {
         say::text(b"    extensions absent: never looked for at version 0300\n");
         return;
     }

@@ -1,5 +1,6 @@
-// Shows what a capture says, record by record and message by message: up to 65,536 bytes of joined records from standard input. Each place
-// is counted from the front of the input. A refusal is told by its name and number, and so is what is not read.
+// Shows what joined records say, record by record and message by message: up to 65,536 bytes of
+// joined records from standard input. Each place is counted from the front of the input. A refusal
+// is told by its name and number, and so is what is not read.
 mod body_lines;
 mod hello_lines;
 mod lists;

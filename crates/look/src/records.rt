@@ -11,11 +11,11 @@ use norrabist::View;
 
 fn say_type(record_type: u8) {
     match record_type {
-        0x14 => say::text(b"ChangeCipherSpec"),
-        0x15 => say::text(b"Alert"),
-        0x16 => say::text(b"Handshake"),
-        0x17 => say::text(b"ApplicationData"),
-        0x18 => say::text(b"Heartbeat"),
+        registry::record::CHANGE_CIPHER_SPEC => say::text(b"ChangeCipherSpec"),
+        registry::record::ALERT => say::text(b"Alert"),
+        registry::record::HANDSHAKE => say::text(b"Handshake"),
+        registry::record::APPLICATION_DATA => say::text(b"ApplicationData"),
+        registry::record::HEARTBEAT => say::text(b"Heartbeat"),
         _ => {
             say::text(b"type 0x");
             say::hex(record_type as usize, 2);

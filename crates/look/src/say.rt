@@ -36,7 +36,7 @@ pub(crate) fn extent(v: View) {
     count(v.len, b"byte");
 }
 
-// The name in document 01's table.
+// The name in the table of refusals, RULES 1.1.
 fn reason(r: Refusal) {
     let reason = r.reason;
     match reason {

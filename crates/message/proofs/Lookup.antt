@@ -13,7 +13,13 @@ abbrev pub Rows : {A : Type 0} → (ℕ → A → Type 0) → List (ℕ × A) �
 Rows P [] = Unit
 Rows P ((n, a) ∷ rows) = P n a × Rows P rows
 
-pub by-rows : {A : Type 0} (P : Option A → Type 0) (k : ℕ) (rows : List (ℕ × A)) → Rows (λ n a. k ≡ n → P (some a)) rows → P none → P (lookup k rows)
+-- a row's, and those of the rows behind it
+infixr 60 _&_
+pub _&_ : {A B : Type 0} → A → B → A × B
+_&_ a b = (a, b)
+
+pub by-rows : {A : Type 0} (P : Option A → Type 0) (k : ℕ) (rows : List (ℕ × A))
+    → Rows (λ n a. k ≡ n → P (some a)) rows → P none → P (lookup k rows)
 by-rows P k [] ps other = other
 by-rows {A} P k ((n, a) ∷ rows) (p, ps) other = go (eqb k n) refl (by-rows P k rows ps other)
   where

@@ -1,5 +1,5 @@
--- What the exports share: the reader below refused, or its value is told; numbers told in front of others; the message that was met; a
--- text written or not. Assumes nothing.
+-- What the exports share: the reader below refused, or its value is told; numbers told in front of
+-- others; the message that was met; a text written or not. Assumes nothing.
 use Prim.Native.Nat.{ℕ, _+_, _<_, _≤_}
 use mathlib.Core.Path.{_≡_, refl, sym, ap, _∙_}
 use mathlib.Core.Bool.{Bool, true, false}
@@ -12,15 +12,13 @@ use lib.Dec.{leb}
 use Rattle.refusal.specs.Answers.{Answer, accepted, refused, then, numberIn, giving}
 use Rattle.refusal.specs.Refusals.{numberOf}
 use Rattle.refusal.specs.declared.Refusal.{Refusal}
-use Rattle.refusal.proofs.Then.{not-both, then-accepted}
+use Rattle.refusal.proofs.Then.{not-both}
 use Rattle.wire.specs.Puts.{put, room, written}
 use Rattle.wire.proofs.Puts.{text-refused, length-put}
 use Rattle.write_rules.proofs.Messages.{put-before}
 use Rattle.list.specs.Items.{orNoSuch}
 use Rattle.message.specs.declared.handshake.TlsMessageHandshake.{TlsMessageHandshake}
-use Rattle.envelope.specs.Opening.{headAt, Met, metAt, message}
-use Rattle.envelope.specs.declared.TlsMessageHead.{TlsMessageHead}
-use Rattle.envelope.proofs.Heads.{met-head}
+use Rattle.envelope.specs.Opening.{Met, metAt}
 use Rattle.grammar.specs.Forms.{reading}
 use Rattle.record.specs.Records.{raw, encrypted}
 use Rattle.record.specs.declared.TlsRawRecord.{TlsRawRecord}
@@ -31,7 +29,7 @@ use Rattle.c_tell.specs.MessageNumbers.{messageNumbers, partNumbers}
 use Rattle.c_array.proofs.Tells.{Tells, in-room, no-room}
 use Rattle.c_hear.specs.Heard.{heard}
 use Rattle.write_message.specs.Written.{handshakeText}
-use Rattle.norrabist_c.specs.Told.{answered, countOr, headerNumbers, rawNumbers, metNumbers, handedText}
+use Rattle.norrabist_c.specs.Told.{answered, countOr, headerNumbers, rawNumbers, metNumbers, heardText}
 
 -- what an export answers of what is told, and what it leaves
 abbrev pub Exported : Answer (List ℕ) → List ℕ → ℕ → List ℕ → Type 0
@@ -49,7 +47,8 @@ module _ {A : Type 0} (f : A → List ℕ) (d : List ℕ) {a : Answer A} {n : �
       (q ∙ sym (ap numberIn (o .says)), sym (o .leaves))
 
   -- the numbers of a value are put in, or there is no room for them
-  pub all-told : {v : A} {d′ : List ℕ} → a ≡ accepted v → Exported (accepted (f v)) d n d′ → Exported (giving f a) d n d′
+  pub all-told : {v : A} {d′ : List ℕ} → a ≡ accepted v → Exported (accepted (f v)) d n d′
+      → Exported (giving f a) d n d′
   all-told e x = as-told d (rw e) x
 
 -- an encrypted record is told as the raw one that it is
@@ -60,7 +59,9 @@ pub as-raw : (s : List ℕ) → giving rawNumbers (reading raw s) ≡ giving enc
 unfolding encrypted
 as-raw s = go (reading raw s)
   where
-    go : (a : Answer TlsRawRecord) → giving rawNumbers a ≡ giving encryptedNumbers (then a (λ r. accepted (record { hdr = r .hdr; msg = record { blob = r .«data» }; next = r .next })))
+    go : (a : Answer TlsRawRecord)
+        → giving rawNumbers a ≡ giving encryptedNumbers
+        (then a (λ r. accepted (record { hdr = r .hdr; msg = record { blob = r .«data» }; next = r .next })))
     go (accepted r) = refl
     go (refused r) = refl
 
@@ -87,8 +88,11 @@ module _ (xs ns d : List ℕ) {m : ℕ} {e : List ℕ} (t : Tells ns (length xs)
           let i : e ≡ put d (length xs) ns = t .1 ∙ sym (in-room ns (length xs) d h .1) in
           let l : length e ≡ length d = rw i (length-put d (length xs) ns h) in
           let f = in-room xs 0 e (omega arith) in
-          let w = in-room (xs ++ ns) 0 d (rw length-append (omega arith)) in
-          (u .0 ∙ sym (f .0) ∙ w .0, u .1 ∙ sym (f .1) ∙ rw i (rw (zero-add (length xs)) at (put-before d 0 xs ns (omega arith))) ∙ w .1)
+          let w = in-room (xs ++ ns) 0 d (rw length-append (omega arith)) in (
+            u .0 ∙ sym (f .0) ∙ w .0,
+            u .1 ∙ sym (f .1)
+                ∙ rw i (rw (zero-add (length xs)) at (put-before d 0 xs ns (omega arith))) ∙ w .1,
+          )
       go false q =
           let o = no-room ns (length xs) d (leb-false _ _ q) in
           absurd (omega (arith, z, t .0 ∙ sym (o .0)))
@@ -98,37 +102,23 @@ not-met : (a : Answer Met) {r : Refusal} → then a (λ x. accepted (x .says)) �
 not-met (accepted x) e = absurd (not-both refl e)
 not-met (refused y) {r} e = let d : _≡_ {A = Answer TlsMessageHandshake} (refused y) (refused r) = e in cc
 
-same-met : {x : Met} {h : TlsMessageHead} {m : TlsMessageHandshake} → h ≡ x .head → m ≡ x .says → x ≡ record { head = h; says = m }
-same-met i j = rw (i, j)
-
-next-is : (a : Answer Met) (w : TlsRecordWalk) {v : TlsRecordWalk} {m : TlsMessageHandshake} → then (orNoSuch a) (λ x. accepted (x .says)) ≡ accepted m → v ≡ onTo w a → giving metNumbers (orNoSuch a) ≡ accepted (partNumbers (v .body) ++ (v .next ∷ messageNumbers m))
+next-is : (a : Answer Met) (w : TlsRecordWalk) {v : TlsRecordWalk} {m : TlsMessageHandshake}
+    → then (orNoSuch a) (λ x. accepted (x .says)) ≡ accepted m → v ≡ onTo w a
+    → giving metNumbers (orNoSuch a) ≡ accepted (partNumbers (v .body) ++ (v .next ∷ messageNumbers m))
 next-is (accepted x) w {v} {m} e o = let j : m ≡ x .says = cc e in rw (o, j)
 next-is (refused r) w e o = absurd (not-both e refl)
 
-module _ (s : List ℕ) where
-  -- the message at the front, by its head
-  pub front-not : {r : Refusal} → message s ≡ refused r → metAt s 0 ≡ refused r
-  unfolding message
-  front-not e = not-met (metAt s 0) e
+-- the next of a walk, by the walk moved on
+module _ (s : List ℕ) (w : TlsRecordWalk) where
+  pub next-not : {r : Refusal} → nextMessage s w ≡ refused r → orNoSuch (metAt s (w .next)) ≡ refused r
+  unfolding nextMessage
+  next-not e = not-met (orNoSuch (metAt s (w .next))) e
 
-  pub front-met : {h : TlsMessageHead} {m : TlsMessageHandshake} → headAt s 0 ≡ accepted h → message s ≡ accepted m → metAt s 0 ≡ accepted (record { head = h; says = m })
-  unfolding message
-  front-met {h} {m} e q =
-      let t = then-accepted (metAt s 0) (λ x. accepted (x .says)) q in
-      let g : accepted h ≡ accepted (t .0 .head) = sym e ∙ met-head s 0 (t .1) in
-      let i : h ≡ t .0 .head = cc in
-      let j : m ≡ t .0 .says = cc (t .2) in
-      t .1 ∙ ap accepted (same-met i j)
-
-  -- the next of a walk, by the walk moved on
-  module _ (w : TlsRecordWalk) where
-    pub next-not : {r : Refusal} → nextMessage s w ≡ refused r → orNoSuch (metAt s (w .next)) ≡ refused r
-    unfolding nextMessage
-    next-not e = not-met (orNoSuch (metAt s (w .next))) e
-
-    pub next-told : {v : TlsRecordWalk} {m : TlsMessageHandshake} → nextMessage s w ≡ accepted m → v ≡ moved s w → giving metNumbers (orNoSuch (metAt s (w .next))) ≡ accepted (partNumbers (v .body) ++ (v .next ∷ messageNumbers m))
-    unfolding nextMessage moved
-    next-told e o = next-is (metAt s (w .next)) w e o
+  pub next-told : {v : TlsRecordWalk} {m : TlsMessageHandshake} → nextMessage s w ≡ accepted m → v ≡ moved s w
+      → giving metNumbers (orNoSuch (metAt s (w .next))) ≡ accepted
+      (partNumbers (v .body) ++ (v .next ∷ messageNumbers m))
+  unfolding nextMessage moved
+  next-told e o = next-is (metAt s (w .next)) w e o
 
 -- what a writer answers, leaves, and says it wrote
 abbrev pub Wrote : Answer (List ℕ) → List ℕ → ℕ → ℕ → List ℕ → ℕ → Type 0
@@ -140,7 +130,8 @@ module _ {t : Answer (List ℕ)} (d : List ℕ) (k : ℕ) where
 
   -- the text is one that a writer was called with
   module _ {u : Answer (List ℕ)} (e : t ≡ u) {d′ : List ℕ} where
-    pub not-written : {r : Refusal} {n : ℕ} → room u 0 d ≡ refused r → n ≡ numberOf (r .reason) → d′ ≡ written u 0 d → Wrote t d k n d′ k
+    pub not-written : {r : Refusal} {n : ℕ} → room u 0 d ≡ refused r → n ≡ numberOf (r .reason) → d′ ≡ written u 0 d
+        → Wrote t d k n d′ k
     not-written o q w = rw (e, o) (q, (w, refl))
 
     pub all-written : {m : ℕ} → room u 0 d ≡ accepted m → d′ ≡ written u 0 d → Wrote t d k 0 d′ m
@@ -148,8 +139,8 @@ module _ {t : Answer (List ℕ)} (d : List ℕ) (k : ℕ) where
 
 -- the text of a message handed over
 module _ (s m : List ℕ) where
-  pub not-heard : {r : Refusal} → heard m ≡ refused r → handedText s m ≡ refused r
+  pub not-heard : {r : Refusal} → heard m ≡ refused r → heardText s m ≡ refused r
   not-heard e = rw e
 
-  pub is-heard : {x : TlsMessageHandshake} → heard m ≡ accepted x → handedText s m ≡ handshakeText s x
+  pub is-heard : {x : TlsMessageHandshake} → heard m ≡ accepted x → heardText s m ≡ handshakeText s x
   is-heard e = rw e

@@ -1,5 +1,6 @@
--- What an export answers; document 01 has no such rule. The numbers of a value are put into the lent array as a text is into an output
--- (`wire/specs/Puts.antt`): the answer is the paper's number, 0 where all of them are in; a refusal, NoRoom among them, changes nothing.
+-- What an export answers: RULES 1.7. The numbers of a value are put into the lent array as a text
+-- is into an output (`wire/specs/Puts.antt`): the answer is the table's number, 0 where all of them
+-- are in; a refusal, NoRoom among them, changes nothing.
 use Rattle.refusal.specs.{ℕ, List, [], _∷_, _++_, Answer, accepted, refused, then, numberIn}
 use Rattle.wire.specs.{room}
 use Rattle.write_message.specs.Written.{handshakeText}
@@ -9,7 +10,7 @@ use Rattle.record_open.specs.{TlsPlaintext, TlsPlaintextOpened}
 use Rattle.c_tell.specs.MessageNumbers.{messageNumbers, partNumbers}
 use Rattle.c_hear.specs.{heard}
 
--- the paper's number of putting a text in at the front
+-- the table's number of putting a text in at the front
 abbrev pub answered : Answer (List ℕ) → List ℕ → ℕ
 answered t d = numberIn (room t 0 d)
 
@@ -37,9 +38,9 @@ abbrev pub openedNumbers : TlsPlaintextOpened → List ℕ
 openedNumbers x = plaintextNumbers (x .«record») ++ metNumbers (record { head = x .head; says = x .message })
 
 -- what is written of a message handed over as numbers
-abbrev pub handedText : List ℕ → List ℕ → Answer (List ℕ)
-handedText s m = then (heard m) (λ x. handshakeText s x)
+abbrev pub heardText : List ℕ → List ℕ → Answer (List ℕ)
+heardText s m = then (heard m) (λ x. handshakeText s x)
 
 -- the header of a record to be written: its length is not looked at
-abbrev pub headed : ℕ → ℕ → TlsRecordHeader
-headed t v = record { «record_type» = t; version = v; len = 0 }
+abbrev pub headerOf : ℕ → ℕ → TlsRecordHeader
+headerOf t v = record { «record_type» = t; version = v; len = 0 }

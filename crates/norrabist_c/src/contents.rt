@@ -1,4 +1,4 @@
-// The bodies that the crate opens by themselves too, told as the message that they are.
+// The bodies that tls-parser opens by themselves too, told as the message that they are.
 ghost use mathlib.Core.Path.{_≡_};
 ghost use Rattle.refusal.specs.Answers.{giving};
 ghost use Rattle.read_others.specs.Body.{nextProtocol};
@@ -10,13 +10,14 @@ ghost use Rattle.norrabist_c.specs.Told.{answered};
 ghost use Rattle.read_server.specs.Server.{serverVersions};
 ghost use Rattle.c_tell.specs.MessageNumbers.{messageNumbers};
 ghost use Rattle.wire.specs.Puts.{written};
-use read_others::next_protocol::NextProtocolAnswer;
+use message::handshake::TlsMessageHandshake;
 use read_certs::request::CertificateRequestAnswer;
 use read_certs::status::CertificateStatusAnswer;
 use read_client::ClientHelloAnswer;
-use message::handshake::TlsMessageHandshake;
+use read_others::next_protocol::NextProtocolAnswer;
 use read_server::tlsv12::ServerHelloAnswer;
 
+// Puts the numbers of a ClientHello's body into `out`, and answers the table's number.
 #[no_mangle]
 pub extern "C" fn norrabist_parse_tls_handshake_client_hello(i: &[u8], out: &mut [usize]) -> u8
     ensures { λ r. ⌜ r ≡ answered (giving (λ c. messageNumbers (ClientHello c)) (reading client (now (i .entry)))) (now (out .entry)) ⌝ }
@@ -32,7 +33,7 @@ pub extern "C" fn norrabist_parse_tls_handshake_client_hello(i: &[u8], out: &mut
     }
 }
 
-// The draft 18 hello is Tag here.
+// Puts a ServerHello's numbers into `out`; that of draft 18 is Tag.
 #[no_mangle]
 pub extern "C" fn norrabist_parse_tls_handshake_server_hello(i: &[u8], out: &mut [usize]) -> u8
     ensures { λ r. ⌜ r ≡ answered (giving (λ c. messageNumbers (ServerHello c)) (byVersion serverVersions (now (i .entry)))) (now (out .entry)) ⌝ }
@@ -48,6 +49,7 @@ pub extern "C" fn norrabist_parse_tls_handshake_server_hello(i: &[u8], out: &mut
     }
 }
 
+// Puts the numbers of a CertificateRequest's body into `out`, and answers the table's number.
 #[no_mangle]
 pub extern "C" fn norrabist_parse_tls_handshake_certificaterequest(
     i: &[u8],
@@ -66,6 +68,7 @@ pub extern "C" fn norrabist_parse_tls_handshake_certificaterequest(
     }
 }
 
+// Puts the numbers of a CertificateStatus's body into `out`, and answers the table's number.
 #[no_mangle]
 pub extern "C" fn norrabist_parse_tls_handshake_certificatestatus(i: &[u8], out: &mut [usize]) -> u8
     ensures { λ r. ⌜ r ≡ answered (giving (λ c. messageNumbers (CertificateStatus c)) (reading status (now (i .entry)))) (now (out .entry)) ⌝ }
@@ -81,6 +84,7 @@ pub extern "C" fn norrabist_parse_tls_handshake_certificatestatus(i: &[u8], out:
     }
 }
 
+// Puts the numbers of a NextProtocol's body into `out`, and answers the table's number.
 #[no_mangle]
 pub extern "C" fn norrabist_parse_tls_handshake_next_protocol(i: &[u8], out: &mut [usize]) -> u8
     ensures { λ r. ⌜ r ≡ answered (giving (λ c. messageNumbers (NextProtocol c)) (reading nextProtocol (now (i .entry)))) (now (out .entry)) ⌝ }

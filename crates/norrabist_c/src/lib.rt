@@ -1,5 +1,6 @@
-// What C and Rust link: every reader and writer, on numbers and byte slices. `rust/norrabist.h` declares them. Each answers the paper's
-// number; where that is 0 its numbers stand at the front of the lent array, else the array is as it was.
+// What C and Rust link: every reader and writer, on numbers and byte slices. `rust/norrabist.h`
+// declares them. Each answers the table's number (RULES 1.7); where that is 0 its numbers stand at
+// the front of the lent array, else the array is as it was.
 pub mod contents;
 pub mod lists;
 pub mod messages;

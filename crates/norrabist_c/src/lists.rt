@@ -1,4 +1,5 @@
-// Lists and the messages of a record's content, as many as the lent array has room for. Each answers how many numbers it told.
+// Lists and the messages of a record's content, as many as the lent array has room for. Each
+// answers how many numbers it told.
 ghost use mathlib.Core.Path.{_≡_};
 ghost use lib.ListN.{length};
 ghost use Rattle.c_fill.specs.Batches.{itemBatch, messageBatch, numberBatch};
@@ -32,7 +33,8 @@ pub extern "C" fn norrabist_names(list: &[u8], from: usize, out: &mut [usize]) -
     c_fill::fill_items(list, Width::Two, from, out)
 }
 
-// The messages of a record's content, the first beginning at byte `from`: type, and start and length of the body, of each.
+// The messages of a record's content, the first beginning at byte `from`: type, and start and
+// length of the body, of each.
 #[no_mangle]
 pub extern "C" fn norrabist_messages(content: &[u8], from: usize, out: &mut [usize]) -> usize
     ensures { λ r. ⌜ r ≡ length (messageBatch (length (now (out .entry))) (now (content .entry)) from) ⌝ }

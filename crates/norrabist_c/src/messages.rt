@@ -39,8 +39,8 @@ pub extern "C" fn norrabist_parse_tls_message_handshake(i: &[u8], out: &mut [usi
         HeadAnswer::Got(h) => h,
     };
     let body = head.body;
-    match envelope::parse_tls_message_handshake(i) {
-        MessageAnswer::Refused(r) => refusal::refusal_number(r),
+    match envelope::parse_tls_handshake_body(head.msg_type, wire::view::part_of(i, body)) {
+        MessageAnswer::Refused(r) => refusal::refusal_number(refusal::inside(r, body.start)),
         MessageAnswer::Got(m) => tell_met(body, head.next, m, out),
     }
 }

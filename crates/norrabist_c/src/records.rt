@@ -6,12 +6,12 @@ ghost use Rattle.record_open.specs.Plaintext.{openedFirst, plaintext};
 ghost use Rattle.refusal.specs.Answers.{Answer, giving};
 ghost use Rattle.record.specs.Records.{header, raw};
 ghost use Rattle.wire.specs.Puts.{written};
-use record_open::OpenedAnswer;
-use record_open::PlaintextAnswer;
-use record_open::TlsPlaintextOpened;
 use record::EncryptedAnswer;
 use record::RawRecordAnswer;
 use record::RecordHeaderAnswer;
+use record_open::OpenedAnswer;
+use record_open::PlaintextAnswer;
+use record_open::TlsPlaintextOpened;
 
 // Type, version, length; what follows begins at byte 5.
 #[no_mangle]
@@ -77,7 +77,8 @@ pub extern "C" fn norrabist_parse_tls_encrypted(i: &[u8], out: &mut [usize]) -> 
     }
 }
 
-// Type, version, length, the content, how many messages it has, how many bytes at its end hold none, and where the next record begins.
+// Type, version, length, the content, how many messages it has, how many bytes at its end hold
+// none, and where the next record begins.
 #[no_mangle]
 pub extern "C" fn norrabist_parse_tls_plaintext(i: &[u8], out: &mut [usize]) -> u8
     ensures { λ r. ⌜ r ≡ answered (giving plaintextNumbers (plaintext (now (i .entry)))) (now (out .entry)) ⌝ }
@@ -134,8 +135,8 @@ fn tell_opened(x: TlsPlaintextOpened, out: &mut [usize]) -> u8
     c_array::gen_numbers(out, 0, &opened_numbers)
 }
 
-// The same as of a plaintext record, then of its first message where the body lies, where the next one begins, and the message, its parts
-// within the body.
+// The same as of a plaintext record, then of its first message where the body lies, where the next
+// one begins, and the message, its parts within the body.
 #[no_mangle]
 pub extern "C" fn norrabist_open_tls_plaintext(i: &[u8], out: &mut [usize]) -> u8
     ensures { λ r. ⌜ r ≡ answered (giving openedNumbers (openedFirst (now (i .entry)))) (now (out .entry)) ⌝ }

@@ -1,7 +1,7 @@
 // The writers. `count` is set to how many bytes were written, where they were.
 ghost use mathlib.Core.Path.{_≡_};
 ghost use Rattle.write_record.specs.RecordTexts.{recordText};
-ghost use Rattle.norrabist_c.specs.Told.{answered, countOr, handedText, headed};
+ghost use Rattle.norrabist_c.specs.Told.{answered, countOr, heardText, headerOf};
 ghost use Rattle.wire.specs.Puts.{room, written};
 use message::handshake::MessageAnswer;
 use record::TlsRecordHeader;
@@ -15,9 +15,9 @@ pub extern "C" fn norrabist_gen_tls_messagehandshake(
     out: &mut [u8],
     count: &mut usize,
 ) -> u8
-    ensures { λ r. ⌜ r ≡ answered (handedText (now (i .entry)) (now (m .entry))) (now (out .entry)) ⌝ }
-    ensures { λ _. ⌜ now (out .exit) ≡ written (handedText (now (i .entry)) (now (m .entry))) 0 (now (out .entry)) ⌝ }
-    ensures { λ _. ⌜ now (count .exit) ≡ countOr (now (count .entry)) (room (handedText (now (i .entry)) (now (m .entry))) 0 (now (out .entry))) ⌝ }
+    ensures { λ r. ⌜ r ≡ answered (heardText (now (i .entry)) (now (m .entry))) (now (out .entry)) ⌝ }
+    ensures { λ _. ⌜ now (out .exit) ≡ written (heardText (now (i .entry)) (now (m .entry))) 0 (now (out .entry)) ⌝ }
+    ensures { λ _. ⌜ now (count .exit) ≡ countOr (now (count .entry)) (room (heardText (now (i .entry)) (now (m .entry))) 0 (now (out .entry))) ⌝ }
 {
     let value = match c_hear::hear_message(m) {
         MessageAnswer::Refused(r) => {
@@ -43,9 +43,9 @@ pub extern "C" fn norrabist_gen_tls_plaintext(
     out: &mut [u8],
     count: &mut usize,
 ) -> u8
-    ensures { λ r. ⌜ r ≡ answered (recordText (headed «record_type» version) (now (msg .entry))) (now (out .entry)) ⌝ }
-    ensures { λ _. ⌜ now (out .exit) ≡ written (recordText (headed «record_type» version) (now (msg .entry))) 0 (now (out .entry)) ⌝ }
-    ensures { λ _. ⌜ now (count .exit) ≡ countOr (now (count .entry)) (room (recordText (headed «record_type» version) (now (msg .entry))) 0 (now (out .entry))) ⌝ }
+    ensures { λ r. ⌜ r ≡ answered (recordText (headerOf «record_type» version) (now (msg .entry))) (now (out .entry)) ⌝ }
+    ensures { λ _. ⌜ now (out .exit) ≡ written (recordText (headerOf «record_type» version) (now (msg .entry))) 0 (now (out .entry)) ⌝ }
+    ensures { λ _. ⌜ now (count .exit) ≡ countOr (now (count .entry)) (room (recordText (headerOf «record_type» version) (now (msg .entry))) 0 (now (out .entry))) ⌝ }
 {
     let hdr = TlsRecordHeader {
         record_type,

@@ -7,17 +7,17 @@ ghost use Rattle.grammar.specs.Forms.{reading};
 ghost use Rattle.message.specs.Messages.{messageSays};
 ghost use Rattle.message.specs.declared.handshake.TlsMessageHandshake.the-variants.{Certificate, CertificateRequest, CertificateStatus, KeyUpdate, NewSessionTicket, NextProtocol};
 ghost use Rattle.wire.specs.Numbers.{numberAt};
-use read_others::next_protocol::NextProtocolAnswer;
-use read_others::ticket::NewSessionTicketAnswer;
+use message::handshake::MessageAnswer;
+use message::handshake::TlsMessageHandshake;
 use read_certs::certificate::CertificateAnswer;
 use read_certs::request::CertificateRequestAnswer;
 use read_certs::status::CertificateStatusAnswer;
-use message::handshake::MessageAnswer;
-use message::handshake::TlsMessageHandshake;
+use read_others::next_protocol::NextProtocolAnswer;
+use read_others::ticket::NewSessionTicketAnswer;
 use wire::number::NumberAnswer;
 use wire::number::Width;
 
-// The body has `len` bytes.
+// Opens the first `len` bytes as a NewSessionTicket, or answers as its reader does.
 pub fn parse_tls_handshake_msg_newsessionticket(i: &[u8], len: usize) -> MessageAnswer
     ensures { λ r. ⌜ messageSays r ≡ giving (λ c. NewSessionTicket c) (sessionTicket len (now (i .entry))) ⌝ }
 {
@@ -29,6 +29,7 @@ pub fn parse_tls_handshake_msg_newsessionticket(i: &[u8], len: usize) -> Message
     }
 }
 
+// Opens a body as a Certificate, with the refusals of its reader.
 pub fn parse_tls_handshake_msg_certificate(i: &[u8]) -> MessageAnswer
     ensures { λ r. ⌜ messageSays r ≡ giving (λ c. Certificate c) (reading certificate (now (i .entry))) ⌝ }
 {
@@ -38,6 +39,7 @@ pub fn parse_tls_handshake_msg_certificate(i: &[u8]) -> MessageAnswer
     }
 }
 
+// Opens a body as a CertificateRequest, with the refusals of its reader.
 pub fn parse_tls_handshake_msg_certificaterequest(i: &[u8]) -> MessageAnswer
     ensures { λ r. ⌜ messageSays r ≡ giving (λ c. CertificateRequest c) (certificateRequest (now (i .entry))) ⌝ }
 {
@@ -49,6 +51,7 @@ pub fn parse_tls_handshake_msg_certificaterequest(i: &[u8]) -> MessageAnswer
     }
 }
 
+// Opens a body as a CertificateStatus, with the refusals of its reader.
 pub fn parse_tls_handshake_msg_certificatestatus(i: &[u8]) -> MessageAnswer
     ensures { λ r. ⌜ messageSays r ≡ giving (λ c. CertificateStatus c) (reading status (now (i .entry))) ⌝ }
 {
@@ -60,6 +63,7 @@ pub fn parse_tls_handshake_msg_certificatestatus(i: &[u8]) -> MessageAnswer
     }
 }
 
+// Opens a body as a NextProtocol, with the refusals of its reader.
 pub fn parse_tls_handshake_msg_next_protocol(i: &[u8]) -> MessageAnswer
     ensures { λ r. ⌜ messageSays r ≡ giving (λ c. NextProtocol c) (reading nextProtocol (now (i .entry))) ⌝ }
 {
@@ -69,6 +73,7 @@ pub fn parse_tls_handshake_msg_next_protocol(i: &[u8]) -> MessageAnswer
     }
 }
 
+// Opens a body as a KeyUpdate, which is its first byte.
 pub fn parse_tls_handshake_msg_key_update(i: &[u8]) -> MessageAnswer
     ensures { λ r. ⌜ messageSays r ≡ giving (λ n. KeyUpdate (n .value)) (numberAt 1 (now (i .entry)) 0) ⌝ }
 {

@@ -22,9 +22,12 @@ use Rattle.read_server.specs.Server.{serverVersions, draft18}
 use Rattle.message.specs.declared.handshake.TlsMessageHandshake.the-variants.{ServerHello, ServerHelloV13Draft18}
 use Rattle.open_hellos.specs.HelloMessages.{serverMessage, IsDraft18, AsMessage}
 
-at-draft18 : (s : List ℕ) → IsDraft18 s → (serverMessage s ≡ giving (λ c. ServerHelloV13Draft18 c) (reading draft18 s)) × (byVersion serverVersions s ≡ refused (refusal Tag 0 0))
+at-draft18 : (s : List ℕ) → IsDraft18 s
+    → (serverMessage s ≡ giving (λ c. ServerHelloV13Draft18 c) (reading draft18 s))
+    × (byVersion serverVersions s ≡ refused (refusal Tag 0 0))
 unfolding serverMessage
-at-draft18 s (h, v) = (rw (number-got 2 s 0 (part-in Incomplete s 0 2 (omega arith)), v), decided serverVersions s h ∙ rw v)
+at-draft18 s (h, v) =
+    (rw (number-got 2 s 0 (part-in Incomplete s 0 2 (omega arith)), v), decided serverVersions s h ∙ rw v)
 
 abbrev AsServer : List ℕ → Type 0
 AsServer s = serverMessage s ≡ giving (λ c. ServerHello c) (byVersion serverVersions s)

@@ -7,22 +7,23 @@ ghost use Rattle.open_hellos.specs.HelloMessages.{serverMessage};
 ghost use Rattle.message.specs.Messages.{messageSays};
 ghost use Rattle.message.specs.declared.handshake.TlsMessageHandshake.the-variants.{ClientHello, HelloRequest, HelloRetryRequest};
 ghost use Rattle.refusal.specs.Answers.{accepted, giving};
-use read_others::retry::HelloRetryRequestAnswer;
-use read_client::ClientHelloAnswer;
 use message::handshake::MessageAnswer;
 use message::handshake::TlsMessageHandshake;
+use read_client::ClientHelloAnswer;
+use read_others::retry::HelloRetryRequestAnswer;
 use read_server::tlsv12::ServerHelloAnswer;
 use read_server::tlsv13draft18::Draft18Answer;
 use wire::number::NumberAnswer;
 use wire::number::Width;
 
-// Any body.
+// Opens any body as a HelloRequest; no byte of it is looked at.
 pub fn parse_tls_handshake_msg_hello_request(i: &[u8]) -> MessageAnswer
     ensures { λ r. ⌜ messageSays r ≡ accepted HelloRequest ⌝ }
 {
     MessageAnswer::Got(TlsMessageHandshake::HelloRequest)
 }
 
+// Opens a body as a ClientHello, with the refusals of its reader.
 pub fn parse_tls_handshake_msg_client_hello(i: &[u8]) -> MessageAnswer
     ensures { λ r. ⌜ messageSays r ≡ giving (λ c. ClientHello c) (reading client (now (i .entry))) ⌝ }
 {
@@ -32,7 +33,8 @@ pub fn parse_tls_handshake_msg_client_hello(i: &[u8]) -> MessageAnswer
     }
 }
 
-// At 0x7f12 the draft 18 hello, which `parse_tls_handshake_server_hello` does not open.
+// Opens a body as a ServerHello, and at 0x7f12 as that of draft 18, which
+// `parse_tls_handshake_server_hello` does not open.
 pub fn parse_tls_handshake_msg_server_hello(i: &[u8]) -> MessageAnswer
     ensures { λ r. ⌜ messageSays r ≡ serverMessage (now (i .entry)) ⌝ }
 {
@@ -42,7 +44,7 @@ pub fn parse_tls_handshake_msg_server_hello(i: &[u8]) -> MessageAnswer
         }
         NumberAnswer::Got(n) => n,
     };
-    if version.value == 0x7f12 {
+    if version.value == registry::version::TLS13_DRAFT18 {
         return match read_server::tlsv13draft18::parse_tls_server_hello_tlsv13draft18(i) {
             Draft18Answer::Refused(r) => MessageAnswer::Refused(r),
             Draft18Answer::Got(c) => {
@@ -56,6 +58,7 @@ pub fn parse_tls_handshake_msg_server_hello(i: &[u8]) -> MessageAnswer
     }
 }
 
+// Opens a body as a HelloRetryRequest, with the refusals of its reader.
 pub fn parse_tls_handshake_msg_hello_retry_request(i: &[u8]) -> MessageAnswer
     ensures { λ r. ⌜ messageSays r ≡ giving (λ c. HelloRetryRequest c) (reading retry (now (i .entry))) ⌝ }
 {

@@ -1,5 +1,5 @@
--- The bodies that are handed out whole, as messages: document 01, "0x0c, 0x0e, 0x0f, 0x14: the whole body. 0x10 likewise, always raw", and
--- "The body functions that take a length besides the bytes answer Incomplete when the length is more than the bytes".
+-- The bodies that are handed out whole, as messages: RULES 4.5, 4.6, 4.14; RFC 5246 7.4.3, 7.4.5,
+-- 7.4.7 to 7.4.9.
 use Rattle.refusal.specs.{ℕ, List, Answer, giving}
 use Rattle.wire.specs.{View}
 use Rattle.field.specs.{fixed, step}

@@ -10,6 +10,7 @@ use message::keyexchange::TlsClientKeyExchangeContents;
 use message::keyexchange::TlsServerKeyExchangeContents;
 use wire::view::PartAnswer;
 
+// Opens the first `len` bytes as a ServerKeyExchange, or answers Incomplete.
 pub fn parse_tls_handshake_msg_serverkeyexchange(i: &[u8], len: usize) -> MessageAnswer
     ensures { λ r. ⌜ messageSays r ≡ wholeBody (λ v. ServerKeyExchange (record { parameters = v })) len (now (i .entry)) ⌝ }
 {
@@ -23,6 +24,7 @@ pub fn parse_tls_handshake_msg_serverkeyexchange(i: &[u8], len: usize) -> Messag
     }
 }
 
+// Opens the first `len` bytes as a ServerDone, or answers Incomplete.
 pub fn parse_tls_handshake_msg_serverdone(i: &[u8], len: usize) -> MessageAnswer
     ensures { λ r. ⌜ messageSays r ≡ wholeBody (λ v. ServerDone v) len (now (i .entry)) ⌝ }
 {
@@ -35,6 +37,7 @@ pub fn parse_tls_handshake_msg_serverdone(i: &[u8], len: usize) -> MessageAnswer
     }
 }
 
+// Opens the first `len` bytes as a CertificateVerify, or answers Incomplete.
 pub fn parse_tls_handshake_msg_certificateverify(i: &[u8], len: usize) -> MessageAnswer
     ensures { λ r. ⌜ messageSays r ≡ wholeBody (λ v. CertificateVerify v) len (now (i .entry)) ⌝ }
 {
@@ -47,7 +50,7 @@ pub fn parse_tls_handshake_msg_certificateverify(i: &[u8], len: usize) -> Messag
     }
 }
 
-// The method is not known here, so it is always raw.
+// Opens the first `len` bytes as a raw ClientKeyExchange: its method is not known here.
 pub fn parse_tls_handshake_msg_clientkeyexchange(i: &[u8], len: usize) -> MessageAnswer
     ensures { λ r. ⌜ messageSays r ≡ wholeBody (λ v. ClientKeyExchange (Unknown v)) len (now (i .entry)) ⌝ }
 {
@@ -61,6 +64,7 @@ pub fn parse_tls_handshake_msg_clientkeyexchange(i: &[u8], len: usize) -> Messag
     }
 }
 
+// Opens the first `len` bytes as a Finished, or answers Incomplete.
 pub fn parse_tls_handshake_msg_finished(i: &[u8], len: usize) -> MessageAnswer
     ensures { λ r. ⌜ messageSays r ≡ wholeBody (λ v. Finished v) len (now (i .entry)) ⌝ }
 {

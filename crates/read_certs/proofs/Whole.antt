@@ -1,5 +1,5 @@
--- Each body that speaks of certificates is accepted exactly when it splits by its grammar, instances of the one theorem; and equal numbers
--- and values mean equal answers. Assumes nothing.
+-- Each body that speaks of certificates is accepted exactly when it splits by its grammar,
+-- instances of the one theorem; and equal numbers and values mean equal answers. Assumes nothing.
 use Prim.Native.Nat.{ℕ}
 use mathlib.Core.Path.{_≡_, refl}
 use mathlib.Core.Bool.{Bool, true, false}
@@ -9,7 +9,8 @@ use Rattle.refusal.proofs.Told.{tells-all}
 use Rattle.wire.specs.Numbers.{Bytes}
 use Rattle.grammar.specs.Demand3.{BySplit, Lawful}
 use Rattle.grammar.proofs.Forms.{by-split}
-use Rattle.read_certs.specs.Certs.{certificate, certificateSays, request, certificateRequest, requestSays, status, statusSays, OfRequest}
+use Rattle.read_certs.specs.Certs.{certificate, certificateSays, request, certificateRequest, requestSays}
+use Rattle.read_certs.specs.Certs.{status, statusSays, OfRequest}
 use Rattle.read_certs.specs.declared.certificate.TlsCertificateContents.{TlsCertificateContents}
 use Rattle.read_certs.specs.declared.certificate.CertificateAnswer.{CertificateAnswer}
 use Rattle.read_certs.specs.declared.request.TlsCertificateRequestContents.{TlsCertificateRequestContents}
@@ -21,7 +22,8 @@ certificate-lawful : Lawful certificate
 certificate-lawful = record { suits = (tt, tt); handed = λ o e t. refl; block = λ o e t. refl; tail = λ o e t. refl }
 
 request-lawful : (long : Bool) → Lawful (request long)
-request-lawful long = record { suits = (tt, (tt, (tt, tt))); handed = λ o e t. refl; block = λ o e t. refl; tail = λ o e t. refl }
+request-lawful long =
+    record { suits = (tt, (tt, (tt, tt))); handed = λ o e t. refl; block = λ o e t. refl; tail = λ o e t. refl }
 
 status-lawful : Lawful status
 status-lawful = record { suits = (refl, (tt, tt)); handed = λ o e t. refl; block = λ o e t. refl; tail = λ o e t. refl }

@@ -12,17 +12,20 @@ use wire::number::Width;
 use wire::view::PartAnswer;
 use wire::view::View;
 
-// The chain's bytes, each certificate behind its length, and where the rest of the body begins.
+// Holds a Certificate: the chain's bytes, each certificate behind its length, and where the tail
+// begins.
 pub struct TlsCertificateContents {
     pub cert_chain: View,
     pub tail: usize,
 }
 
+// Holds the contents of a Certificate, or the refusal.
 pub enum CertificateAnswer {
     Refused(Refusal),
     Got(TlsCertificateContents),
 }
 
+// Takes the chain behind its length of three bytes, without a look at the certificates in it.
 pub fn parse_tls_certificate(i: &[u8]) -> CertificateAnswer
     ensures { λ r. ⌜ certificateSays r ≡ reading certificate (now (i .entry)) ⌝ }
 {
@@ -38,8 +41,10 @@ pub fn parse_tls_certificate(i: &[u8]) -> CertificateAnswer
     }
 }
 
-// Each takes the body that the contents were read from; a certificate's place is counted from the front of the chain.
+// Each takes the body that the contents were read from; a certificate's place is counted from the
+// front of the chain.
 impl TlsCertificateContents {
+    // Counts the certificates of the chain, up to the first that does not fit.
     pub fn cert_count(self, body: &[u8]) -> usize
         ensures { λ r. ⌜ r ≡ length (items (sized 3) (partOf (now (body .entry)) (self .«cert_chain»))) ⌝ }
     {
@@ -53,7 +58,8 @@ impl TlsCertificateContents {
         list::items::item_at(wire::view::part_of(body, self.cert_chain), Width::Three, at)
     }
 
-    // The certificate that begins at `from`, and where the next one does: a walk takes one call for each.
+    // The certificate that begins at `from`, and where the next one does: a walk takes one call for
+    // each.
     pub fn cert_from(self, body: &[u8], from: usize) -> PartAnswer
         ensures { λ r. ⌜ partSays r ≡ itemFrom (sized 3) (partOf (now (body .entry)) (self .«cert_chain»)) from ⌝ }
     {

@@ -1,4 +1,5 @@
-// The CertificateRequest (RFC 5246 7.4.4), and the form of TLS 1.0 and 1.1 that has no signature pairs (RFC 4346 7.4.4).
+// The CertificateRequest (RFC 5246 7.4.4), and the form of TLS 1.0 and 1.1 that has no signature
+// pairs (RFC 4346 7.4.4).
 ghost use mathlib.Core.Bool.{true, false};
 ghost use mathlib.Core.Path.{_≡_};
 ghost use lib.ListN.{length};
@@ -17,7 +18,7 @@ use wire::view::OptView;
 use wire::view::PartAnswer;
 use wire::view::View;
 
-// The lists' bytes, and where the rest of the body begins.
+// Holds a CertificateRequest: the lists' bytes, and where the tail begins.
 pub struct TlsCertificateRequestContents {
     pub cert_types: View,
     pub sig_hash_algs: OptView,
@@ -25,6 +26,7 @@ pub struct TlsCertificateRequestContents {
     pub tail: usize,
 }
 
+// Holds the contents of a CertificateRequest, or the refusal.
 pub enum CertificateRequestAnswer {
     Refused(Refusal),
     Got(TlsCertificateRequestContents),
@@ -105,19 +107,21 @@ pub fn parse_tls_handshake_certificaterequest(i: &[u8]) -> CertificateRequestAns
 
 // Each takes the body that the contents were read from. Absent signature pairs are none.
 impl TlsCertificateRequestContents {
+    // Counts the certificate types, each one byte.
     pub fn type_count(self, body: &[u8]) -> usize
         ensures { λ r. ⌜ r ≡ length (items (Field.fixed 1) (partOf (now (body .entry)) (self .«cert_types»))) ⌝ }
     {
         list::numbers::number_count(wire::view::part_of(body, self.cert_types), Width::One)
     }
 
+    // Reads the certificate type at a place of the list.
     pub fn type_at(self, body: &[u8], at: usize) -> NumberAnswer
         ensures { λ r. ⌜ numberSays r ≡ numberPlace at 1 (partOf (now (body .entry)) (self .«cert_types»)) ⌝ }
     {
         list::numbers::number_at(wire::view::part_of(body, self.cert_types), Width::One, at)
     }
 
-    // An odd byte after the pairs is dropped.
+    // Counts the signature pairs; an odd byte after them is dropped.
     pub fn sig_count(self, body: &[u8]) -> usize
         ensures { λ r. ⌜ r ≡ length (items (Field.fixed 2) (optPartOf (now (body .entry)) (self .«sig_hash_algs»))) ⌝ }
     {
@@ -125,6 +129,7 @@ impl TlsCertificateRequestContents {
         list::numbers::number_count(wire::view::opt_part_of(body, sigs), Width::Two)
     }
 
+    // Reads the signature pair at a place of the list, as a number of two bytes.
     pub fn sig_at(self, body: &[u8], at: usize) -> NumberAnswer
         ensures { λ r. ⌜ numberSays r ≡ numberPlace at 2 (optPartOf (now (body .entry)) (self .«sig_hash_algs»)) ⌝ }
     {
@@ -132,13 +137,15 @@ impl TlsCertificateRequestContents {
         list::numbers::number_at(wire::view::opt_part_of(body, sigs), Width::Two, at)
     }
 
+    // Counts the names of authorities, up to the first that does not fit.
     pub fn ca_count(self, body: &[u8]) -> usize
         ensures { λ r. ⌜ r ≡ length (items (sized 2) (partOf (now (body .entry)) (self .«unparsed_ca»))) ⌝ }
     {
         list::items::item_count(wire::view::part_of(body, self.unparsed_ca), Width::Two)
     }
 
-    // The name at a place of the list, found by walking; its place is counted from the front of the list.
+    // The name at a place of the list, found by walking; its place is counted from the front of the
+    // list.
     pub fn ca_at(self, body: &[u8], at: usize) -> PartAnswer
         ensures { λ r. ⌜ partSays r ≡ place at (items (sized 2) (partOf (now (body .entry)) (self .«unparsed_ca»))) ⌝ }
     {

@@ -9,18 +9,20 @@ use wire::number::Width;
 use wire::view::PartAnswer;
 use wire::view::View;
 
-// The crate's fields, and where the rest of the body begins.
+// Holds a CertificateStatus: tls-parser's fields, and where the tail begins.
 pub struct TlsCertificateStatusContents {
     pub status_type: u8,
     pub blob: View,
     pub tail: usize,
 }
 
+// Holds the contents of a CertificateStatus, or the refusal.
 pub enum CertificateStatusAnswer {
     Refused(Refusal),
     Got(TlsCertificateStatusContents),
 }
 
+// Takes the type, one byte, and the response behind its length of three bytes.
 pub fn parse_tls_handshake_certificatestatus(i: &[u8]) -> CertificateStatusAnswer
     ensures { λ r. ⌜ statusSays r ≡ reading status (now (i .entry)) ⌝ }
 {

@@ -1,5 +1,5 @@
--- Demand 3, its reading half, of the ClientHello, an instance of the one theorem; and equal numbers and values mean equal answers.
--- Assumes nothing.
+-- Demand 3, its reading half, of the ClientHello, an instance of the one theorem; and equal numbers
+-- and values mean equal answers. Assumes nothing.
 use Prim.Native.Nat.{ℕ}
 use mathlib.Core.Path.{_≡_, refl}
 use mathlib.Core.List.{List}
@@ -14,7 +14,14 @@ use Rattle.read_client.specs.declared.ClientHelloAnswer.{ClientHelloAnsw
 use Rattle.read_client.specs.declared.ClientHelloAnswer.the-variants.{Refused, Got}
 
 pub client-lawful : Lawful client
-client-lawful = record { suits = (refl, (tt, (tt, (tt, (tt, tt))))); handed = λ o e t. refl; block = λ o e t. refl; tail = λ o e t. refl }
+client-lawful =
+    record {
+      suits =
+          (refl, (tt, (tt, (tt, (tt, tt)))));
+      handed = λ o e t. refl;
+      block = λ o e t. refl;
+      tail = λ o e t. refl;
+    }
 
 pub demand3 : (body : List ℕ) → Bytes body → BySplit client body
 demand3 = by-split client client-lawful

@@ -1,4 +1,4 @@
--- The ClientHello: document 01, "The grammar of the three hellos"; RFC 5246 7.4.1.2.
+-- The ClientHello as a value, and the times in its random: RULES 3.2, 3.13; RFC 5246 7.4.1.2.
 use Rattle.refusal.specs.{ℕ, List, length, eqb, leb, Answer, accepted, refused}
 use Rattle.wire.specs.{pick, be}
 use Rattle.grammar.specs.{clientHello, Form}
@@ -17,10 +17,12 @@ abbrev pub clientSays : ClientHelloAnswer → Answer TlsClientHelloContents
 clientSays (ClientHelloAnswer.Refused r) = refused r
 clientSays (ClientHelloAnswer.Got c) = accepted c
 
--- tls-parser's answer: 0 unless the random has four bytes, since it converts the whole random to a number of four bytes
+-- RULES 3.13, tls-parser's answer: 0 unless the random has four bytes, since it converts the whole
+-- random to a number of four bytes
 abbrev pub randTime : List ℕ → ℕ
 randTime random = pick (eqb (length random) 4) (be 4 random 0) 0
 
--- gmt_unix_time, RFC 5246 7.4.1.2: the first four bytes of the random, or 0 where there are not as many
+-- RULES 3.13, RFC 5246 7.4.1.2, gmt_unix_time: the first four bytes of the random, or 0 where there
+-- are not as many
 abbrev pub gmtUnixTime : List ℕ → ℕ
 gmtUnixTime random = pick (leb 4 (length random)) (be 4 random 0) 0

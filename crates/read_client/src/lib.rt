@@ -1,4 +1,4 @@
-// The ClientHello, and what the crate's trait of that name hands out of it.
+// The ClientHello (RULES 3.2), and what tls-parser's trait of that name hands out of it.
 ghost use mathlib.Core.Path.{_≡_};
 ghost use lib.ListN.{drop, length};
 ghost use Rattle.field.specs.Fields.{Field};
@@ -17,7 +17,7 @@ use wire::view::OptView;
 use wire::view::PartAnswer;
 use wire::view::View;
 
-// The crate's fields, and where the tail begins.
+// Holds a ClientHello: tls-parser's fields, and where the tail begins.
 pub struct TlsClientHelloContents {
     pub version: u16,
     pub random: View,
@@ -28,11 +28,13 @@ pub struct TlsClientHelloContents {
     pub tail: usize,
 }
 
+// Holds the contents of a ClientHello, or the refusal.
 pub enum ClientHelloAnswer {
     Refused(Refusal),
     Got(TlsClientHelloContents),
 }
 
+// Reads a ClientHello's body field by field, and its extensions where they fit.
 pub fn parse_tls_handshake_client_hello(i: &[u8]) -> ClientHelloAnswer
     ensures { λ r. ⌜ clientSays r ≡ reading client (now (i .entry)) ⌝ }
     ensures { λ _. ⌜ BySplit client (now (i .entry)) ⌝ }
@@ -72,14 +74,17 @@ pub fn parse_tls_handshake_client_hello(i: &[u8]) -> ClientHelloAnswer
     })
 }
 
-// Each accessor takes the bytes that the hello was read from. A view outside the bytes lent is the empty part.
+// Each accessor takes the bytes that the hello was read from. A view outside the bytes lent is the
+// empty part.
 impl TlsClientHelloContents {
+    // Tells the version that the hello has.
     pub fn version(self) -> u16
         ensures { λ r. ⌜ r ≡ self .version ⌝ }
     {
         self.version
     }
 
+    // Hands out the bytes of the random.
     pub fn random(self, body: &[u8]) -> &[u8]
         ensures { λ r. ⌜ now r ≡ partOf (now (body .entry)) (self .random) ⌝ }
     {
@@ -115,7 +120,7 @@ impl TlsClientHelloContents {
         wire::view::rest_of(self.random(body), 4)
     }
 
-    // An absent id is the empty part.
+    // Hands out the session id, or the empty part where it is absent.
     pub fn session_id(self, body: &[u8]) -> &[u8]
         ensures { λ r. ⌜ now r ≡ optPartOf (now (body .entry)) (self .«session_id») ⌝ }
     {
@@ -123,6 +128,7 @@ impl TlsClientHelloContents {
         wire::view::opt_part_of(body, id)
     }
 
+    // Counts the ciphers, each two bytes.
     pub fn cipher_count(self, body: &[u8]) -> usize
         ensures { λ r. ⌜ r ≡ length (items (Field.fixed 2) (partOf (now (body .entry)) (self .ciphers))) ⌝ }
     {
@@ -136,6 +142,7 @@ impl TlsClientHelloContents {
         list::numbers::number_at(wire::view::part_of(body, self.ciphers), Width::Two, at)
     }
 
+    // Counts the compression methods, each one byte.
     pub fn comp_count(self, body: &[u8]) -> usize
         ensures { λ r. ⌜ r ≡ length (items (Field.fixed 1) (partOf (now (body .entry)) (self .comp))) ⌝ }
     {
@@ -149,7 +156,7 @@ impl TlsClientHelloContents {
         list::numbers::number_at(wire::view::part_of(body, self.comp), Width::One, at)
     }
 
-    // Absent extensions are the empty part; the field `ext` tells the two apart.
+    // Hands out the extensions, or the empty part where they are absent; `ext` tells the two apart.
     pub fn ext(self, body: &[u8]) -> &[u8]
         ensures { λ r. ⌜ now r ≡ optPartOf (now (body .entry)) (self .ext) ⌝ }
     {

@@ -1,5 +1,5 @@
--- What demand 3 says of the hellos, of these bodies, instances of the one theorem, and the ticket by the length given; and equal numbers
--- and values mean equal answers. Assumes nothing.
+-- What demand 3 says of the hellos, of these bodies, instances of the one theorem, and the ticket
+-- by the length given; and equal numbers and values mean equal answers. Assumes nothing.
 use Prim.Native.Nat.{ℕ}
 use mathlib.Core.Path.{_≡_, refl}
 use mathlib.Core.List.{List}
@@ -21,10 +21,12 @@ use Rattle.read_others.specs.declared.next_protocol.NextProtocolAnswer.{
 use Rattle.read_others.proofs.Tickets.{under-4, past-end, whole, splits, only}
 
 retry-lawful : Lawful retry
-retry-lawful = record { suits = (refl, (refl, tt)); handed = λ o e t. refl; block = λ o e t. refl; tail = λ o e t. refl }
+retry-lawful =
+    record { suits = (refl, (refl, tt)); handed = λ o e t. refl; block = λ o e t. refl; tail = λ o e t. refl }
 
 next-protocol-lawful : Lawful nextProtocol
-next-protocol-lawful = record { suits = (tt, (tt, tt)); handed = λ o e t. refl; block = λ o e t. refl; tail = λ o e t. refl }
+next-protocol-lawful =
+    record { suits = (tt, (tt, tt)); handed = λ o e t. refl; block = λ o e t. refl; tail = λ o e t. refl }
 
 pub splits-retry : (body : List ℕ) → Bytes body → BySplit retry body
 splits-retry = by-split retry retry-lawful

@@ -1,11 +1,12 @@
--- The bodies of a HelloRetryRequest, a NewSessionTicket and a NextProtocol: document 01, "The other handshake bodies".
+-- The bodies of a HelloRetryRequest, a NewSessionTicket and a NextProtocol: RULES 4.2, 4.3, 4.11;
+-- draft-ietf-tls-tls13-18 4.1.4, RFC 5077 3.3, draft-agl-tls-nextprotoneg-03.
 use Rattle.refusal.specs.{ℕ, _+_, _-_, _<_, _≤_, _≡_, List, [], _∷_, _++_, none, some, ltb, length, drop, refusal, Answer, accepted, refused, Incomplete, Verify, Refusal, giving}
 use Rattle.wire.specs.{pick, partOf, be, bytesOf, Absent}
 use Rattle.field.specs.{fixed, sized, step, TooFew}
 use Rattle.grammar.specs.{asView, version, cipher, extensions, Form}
 use Rattle.read_others.specs.declared.{next_protocol.NextProtocolAnswer.NextProtocolAnswer, next_protocol.TlsNextProtocolContent.TlsNextProtocolContent, retry.HelloRetryRequestAnswer.HelloRetryRequestAnswer, retry.TlsHelloRetryRequestContents.TlsHelloRetryRequestContents, ticket.NewSessionTicketAnswer.NewSessionTicketAnswer, ticket.TlsNewSessionTicketContent.TlsNewSessionTicketContent}
 
--- "HelloRetryRequest: version 2, cipher 2, extensions as above"; draft-ietf-tls-tls13-18, 4.1.4
+-- RULES 4.3: HelloRetryRequest; draft-ietf-tls-tls13-18 4.1.4
 abbrev pub retry : Form TlsHelloRetryRequestContents
 retry = record {
   grammar = record { rows = version ∷ cipher ∷ []; block = some extensions };
@@ -15,7 +16,7 @@ retry = record {
   tail = λ c. c .tail;
 }
 
--- "NextProtocol: two parts, each with length 1"; draft-agl-tls-nextprotoneg-03
+-- RULES 4.11: NextProtocol; draft-agl-tls-nextprotoneg-03
 abbrev pub nextProtocol : Form TlsNextProtocolContent
 nextProtocol = record {
   grammar = record { rows = (sized 1, asView) ∷ (sized 1, asView) ∷ []; block = none };
@@ -25,8 +26,8 @@ nextProtocol = record {
   tail = λ c. c .tail;
 }
 
--- "NewSessionTicket: lifetime 4; the ticket is the whole rest of the body", a body of n bytes; "Incomplete when the length is more than the
--- bytes (the ticket's Verify, for a given length under 4, comes first)". RFC 5077 3.3 has a length before the ticket; the crate does not.
+-- RULES 4.2: NewSessionTicket, a body of n bytes; 4.14: Verify comes before Incomplete. RFC 5077
+-- 3.3 has a length before the ticket; tls-parser does not.
 unfoldable pub sessionTicket : ℕ → List ℕ → Answer TlsNewSessionTicketContent
 sessionTicket n s =
     pick (ltb n 4) (refused (refusal Verify 0 0))

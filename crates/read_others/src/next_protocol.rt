@@ -8,18 +8,20 @@ use wire::number::Width;
 use wire::view::PartAnswer;
 use wire::view::View;
 
-// The crate's fields, and where the rest of the body begins.
+// Holds a NextProtocol: tls-parser's fields, and where the tail begins.
 pub struct TlsNextProtocolContent {
     pub selected_protocol: View,
     pub padding: View,
     pub tail: usize,
 }
 
+// Holds the contents of a NextProtocol, or the refusal.
 pub enum NextProtocolAnswer {
     Refused(Refusal),
     Got(TlsNextProtocolContent),
 }
 
+// Takes the protocol and the padding, each behind its length of one byte.
 pub fn parse_tls_handshake_next_protocol(i: &[u8]) -> NextProtocolAnswer
     ensures { λ r. ⌜ nextProtocolSays r ≡ reading nextProtocol (now (i .entry)) ⌝ }
 {

@@ -8,7 +8,7 @@ use wire::number::NumberAnswer;
 use wire::number::Width;
 use wire::view::OptView;
 
-// The crate's fields, and where the rest of the body begins.
+// Holds a HelloRetryRequest: tls-parser's fields, and where the tail begins.
 pub struct TlsHelloRetryRequestContents {
     pub version: u16,
     pub cipher: u16,
@@ -16,11 +16,13 @@ pub struct TlsHelloRetryRequestContents {
     pub tail: usize,
 }
 
+// Holds the contents of a HelloRetryRequest, or the refusal.
 pub enum HelloRetryRequestAnswer {
     Refused(Refusal),
     Got(TlsHelloRetryRequestContents),
 }
 
+// Takes the version and the cipher, two bytes each, and the extensions where they fit.
 pub fn parse_tls_hello_retry_request(i: &[u8]) -> HelloRetryRequestAnswer
     ensures { λ r. ⌜ retrySays r ≡ reading retry (now (i .entry)) ⌝ }
 {

@@ -1,4 +1,4 @@
-// The NewSessionTicket (RFC 5077 3.3), as the crate reads it.
+// The NewSessionTicket (RULES 4.2, RFC 5077 3.3), as tls-parser reads it.
 ghost use mathlib.Core.Path.{_≡_};
 ghost use Rattle.read_others.specs.Body.{sessionTicket, ticketSays};
 use refusal::Reason;
@@ -8,13 +8,14 @@ use wire::number::Width;
 use wire::view::PartAnswer;
 use wire::view::View;
 
-// The crate's fields, and where the rest begins.
+// Holds a NewSessionTicket: tls-parser's fields, and where the tail begins.
 pub struct TlsNewSessionTicketContent {
     pub ticket_lifetime_hint: u32,
     pub ticket: View,
     pub tail: usize,
 }
 
+// Holds the contents of a NewSessionTicket, or the refusal.
 pub enum NewSessionTicketAnswer {
     Refused(Refusal),
     Got(TlsNewSessionTicketContent),

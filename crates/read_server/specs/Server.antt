@@ -1,6 +1,7 @@
--- The ServerHello, and that of TLS 1.3 draft 18: document 01, "The grammar of the three hellos"; RFC 5246 7.4.1.3,
+-- The ServerHello, and that of TLS 1.3 draft 18, as values: RULES 3.3 to 3.5; RFC 5246 7.4.1.3,
 -- draft-ietf-tls-tls13-18 4.1.3.
 use Rattle.refusal.specs.{[], _∷_, Bool, true, false, Answer, accepted, refused}
+use Rattle.registry.specs.Versions.{ssl30, tls10, tls11, tls12}
 use Rattle.grammar.specs.{serverHello, serverHelloDraft18, Form, Listing}
 use Rattle.read_server.specs.declared.{tlsv12.ServerHelloAnswer.ServerHelloAnswer, tlsv12.TlsServerHelloContents.TlsServerHelloContents, tlsv13draft18.Draft18Answer.Draft18Answer, tlsv13draft18.TlsServerHelloV13Draft18Contents.TlsServerHelloV13Draft18Contents}
 
@@ -15,7 +16,7 @@ server hasExt = record {
 
 -- the versions listed: from 0x0301 to 0x0303 with extensions, at 0x0300 they are never looked for
 abbrev pub serverVersions : Listing TlsServerHelloContents
-serverVersions = (0x0303, server true) ∷ (0x0302, server true) ∷ (0x0301, server true) ∷ (0x0300, server false) ∷ []
+serverVersions = (tls12, server true) ∷ (tls11, server true) ∷ (tls10, server true) ∷ (ssl30, server false) ∷ []
 
 abbrev pub serverSays : ServerHelloAnswer → Answer TlsServerHelloContents
 serverSays (ServerHelloAnswer.Refused r) = refused r

@@ -16,7 +16,7 @@ use wire::number::Width;
 use wire::view::OptView;
 use wire::view::View;
 
-// The crate's fields, and where the tail begins.
+// Holds a ServerHello: tls-parser's fields, and where the tail begins.
 pub struct TlsServerHelloContents {
     pub version: u16,
     pub random: View,
@@ -27,6 +27,7 @@ pub struct TlsServerHelloContents {
     pub tail: usize,
 }
 
+// Holds the contents of a ServerHello, or the refusal.
 pub enum ServerHelloAnswer {
     Refused(Refusal),
     Got(TlsServerHelloContents),
@@ -45,7 +46,7 @@ fn extensions(i: &[u8], at: usize, has_ext: bool) -> OptPart
     }
 }
 
-// The body by its grammar, whatever the version.
+// Reads a ServerHello at any version, with extensions or without.
 pub fn parse_tls_server_hello_tlsv12(i: &[u8], has_ext: bool) -> ServerHelloAnswer
     ensures { λ r. ⌜ serverSays r ≡ reading (server «has_ext») (now (i .entry)) ⌝ }
     ensures { λ _. ⌜ BySplit (server «has_ext») (now (i .entry)) ⌝ }
@@ -83,7 +84,7 @@ pub fn parse_tls_server_hello_tlsv12(i: &[u8], has_ext: bool) -> ServerHelloAnsw
     })
 }
 
-// The version is looked at before anything else.
+// Reads a ServerHello as its version says, which is looked at before anything else.
 pub fn parse_tls_handshake_server_hello(i: &[u8]) -> ServerHelloAnswer
     ensures { λ r. ⌜ serverSays r ≡ byVersion serverVersions (now (i .entry)) ⌝ }
     ensures { λ _. ⌜ ByVersion serverVersions (now (i .entry)) ⌝ }
@@ -96,22 +97,24 @@ pub fn parse_tls_handshake_server_hello(i: &[u8]) -> ServerHelloAnswer
     };
     let v = version.value;
     match v {
-        0x0303 => parse_tls_server_hello_tlsv12(i, true),
-        0x0302 => parse_tls_server_hello_tlsv12(i, true),
-        0x0301 => parse_tls_server_hello_tlsv12(i, true),
-        0x0300 => parse_tls_server_hello_tlsv12(i, false),
+        registry::version::TLS12 => parse_tls_server_hello_tlsv12(i, true),
+        registry::version::TLS11 => parse_tls_server_hello_tlsv12(i, true),
+        registry::version::TLS10 => parse_tls_server_hello_tlsv12(i, true),
+        registry::version::SSL30 => parse_tls_server_hello_tlsv12(i, false),
         _ => ServerHelloAnswer::Refused(refusal::refuse(Reason::Tag, 0, 0)),
     }
 }
 
 // Each accessor takes the bytes that the hello was read from; an absent part is the empty one.
 impl TlsServerHelloContents {
+    // Hands out the bytes of the random.
     pub fn random(self, body: &[u8]) -> &[u8]
         ensures { λ r. ⌜ now r ≡ partOf (now (body .entry)) (self .random) ⌝ }
     {
         wire::view::part_of(body, self.random)
     }
 
+    // Hands out the session id.
     pub fn session_id(self, body: &[u8]) -> &[u8]
         ensures { λ r. ⌜ now r ≡ optPartOf (now (body .entry)) (self .«session_id») ⌝ }
     {
@@ -119,6 +122,7 @@ impl TlsServerHelloContents {
         wire::view::opt_part_of(body, id)
     }
 
+    // Hands out the bytes of the extensions, without their length.
     pub fn ext(self, body: &[u8]) -> &[u8]
         ensures { λ r. ⌜ now r ≡ optPartOf (now (body .entry)) (self .ext) ⌝ }
     {

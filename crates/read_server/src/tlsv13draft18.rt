@@ -12,7 +12,7 @@ use wire::view::OptView;
 use wire::view::PartAnswer;
 use wire::view::View;
 
-// The crate's fields, and where the tail begins.
+// Holds a ServerHello of draft 18: tls-parser's fields, and where the tail begins.
 pub struct TlsServerHelloV13Draft18Contents {
     pub version: u16,
     pub random: View,
@@ -21,12 +21,13 @@ pub struct TlsServerHelloV13Draft18Contents {
     pub tail: usize,
 }
 
+// Holds the contents of a draft 18 ServerHello, or the refusal.
 pub enum Draft18Answer {
     Refused(Refusal),
     Got(TlsServerHelloV13Draft18Contents),
 }
 
-// The body by its grammar, whatever the version.
+// Reads a ServerHello of draft 18, whatever version it has.
 pub fn parse_tls_server_hello_tlsv13draft18(i: &[u8]) -> Draft18Answer
     ensures { λ r. ⌜ draft18Says r ≡ reading draft18 (now (i .entry)) ⌝ }
     ensures { λ _. ⌜ BySplit draft18 (now (i .entry)) ⌝ }
@@ -37,7 +38,7 @@ pub fn parse_tls_server_hello_tlsv13draft18(i: &[u8]) -> Draft18Answer
         }
         NumberAnswer::Got(n) => n,
     };
-    let random = match field::take(i, version.next, 32) {
+    let random = match field::take(i, version.next, registry::limit::RANDOM) {
         PartAnswer::Refused(r) => {
             return Draft18Answer::Refused(r);
         }
@@ -63,12 +64,14 @@ pub fn parse_tls_server_hello_tlsv13draft18(i: &[u8]) -> Draft18Answer
 
 // Each accessor takes the bytes that the hello was read from; absent extensions are the empty part.
 impl TlsServerHelloV13Draft18Contents {
+    // Hands out the bytes of the random.
     pub fn random(self, body: &[u8]) -> &[u8]
         ensures { λ r. ⌜ now r ≡ partOf (now (body .entry)) (self .random) ⌝ }
     {
         wire::view::part_of(body, self.random)
     }
 
+    // Hands out the bytes of the extensions, without their length.
     pub fn ext(self, body: &[u8]) -> &[u8]
         ensures { λ r. ⌜ now r ≡ optPartOf (now (body .entry)) (self .ext) ⌝ }
     {

@@ -1,5 +1,5 @@
--- What the answer for version, random and session id says of a reading that begins with them; and equal numbers and values mean equal
--- answers. Assumes nothing.
+-- What the answer for version, random and session id says of a reading that begins with them; and
+-- equal numbers and values mean equal answers. Assumes nothing.
 use Prim.Native.Nat.{ℕ}
 use mathlib.Core.Path.{_≡_, refl, ap, sym, _∙_}
 use mathlib.Core.Logic.{_⊎_, inl, inr}
@@ -22,7 +22,8 @@ abbrev pub startRows : List Row
 startRows = helloStart .grammar .rows
 
 abbrev startOf : List ℕ → Views startRows × ℕ → Start
-startOf s q = valueOf helloStart s (withLast (helloStart .grammar) (q .0) (lastAt (helloStart .grammar .block) s (q .1)))
+startOf s q =
+    valueOf helloStart s (withLast (helloStart .grammar) (q .0) (lastAt (helloStart .grammar .block) s (q .1)))
 
 -- the three fields that were found
 pub record Begun (s : List ℕ) (a : Start) : Type 0 where
@@ -47,19 +48,27 @@ begun s {a} e =
     }
 
 pub not-begun : (s : List ℕ) {r : Refusal} → reading helloStart s ≡ refused r → fieldsAt startRows s 0 ≡ refused r
-not-begun s {r} e = go (then-refused (fieldsAt startRows s 0) (λ q. accepted (startOf s q)) (sym (begin-on helloStart s) ∙ e))
+not-begun s {r} e =
+    go (then-refused (fieldsAt startRows s 0) (λ q. accepted (startOf s q)) (sym (begin-on helloStart s) ∙ e))
   where
-    go : (fieldsAt startRows s 0 ≡ refused r) ⊎ ((q : Views startRows × ℕ) × (fieldsAt startRows s 0 ≡ accepted q) × (_≡_ {A = Answer Start} (accepted (startOf s q)) (refused r))) → fieldsAt startRows s 0 ≡ refused r
+    go : (fieldsAt startRows s 0 ≡ refused r) ⊎
+        ((q : Views startRows × ℕ) × (fieldsAt startRows s 0 ≡ accepted q)
+        × (_≡_ {A = Answer Start} (accepted (startOf s q)) (refused r))) → fieldsAt startRows s 0 ≡ refused r
     go (inl x) = x
     go (inr (q, x, z)) = absurd (not-both refl z)
 
 -- the fields after them, from the place that was reached
-pub after-on : {X : Type 0} {whole : Answer X} {s : List ℕ} (us : List Row) (k : Views (startRows ++ us) × ℕ → Answer X) → whole ≡ then (fieldsAt (startRows ++ us) s 0) k → {a : Start} (b : Begun s a)
+pub after-on : {X : Type 0} {whole : Answer X} {s : List ℕ} (us : List Row)
+    (k : Views (startRows ++ us) × ℕ → Answer X) → whole ≡ then (fieldsAt (startRows ++ us) s 0) k
+    → {a : Start} (b : Begun s a)
     → whole ≡ then (fieldsAt us s (a .next)) (λ t. k (both startRows us (b .q .0) (t .0), t .1))
 after-on us k on b = rw (← (b .next)) (and-all-on startRows us (record { n = 0; k = k; on = on }) (b .found))
 
-abbrev pub after : {X : Type 0} {whole : Answer X} {s : List ℕ} (us : List Row) (k : Views (startRows ++ us) × ℕ → Answer X) → whole ≡ then (fieldsAt (startRows ++ us) s 0) k → {a : Start} → Begun s a → So whole s us
-after us k on {a} b = record { n = a .next; k = λ t. k (both startRows us (b .q .0) (t .0), t .1); on = after-on us k on b }
+abbrev pub after : {X : Type 0} {whole : Answer X} {s : List ℕ} (us : List Row)
+    (k : Views (startRows ++ us) × ℕ → Answer X) → whole ≡ then (fieldsAt (startRows ++ us) s 0) k → {a : Start}
+    → Begun s a → So whole s us
+after us k on {a} b =
+    record { n = a .next; k = λ t. k (both startRows us (b .q .0) (t .0), t .1); on = after-on us k on b }
 
 abbrev back : Answer Start → StartAnswer
 back (accepted a) = Got a

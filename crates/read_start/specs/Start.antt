@@ -1,4 +1,5 @@
--- What a ClientHello and a ServerHello begin with: version, random and session id in both, RFC 5246 7.4.1.2 and 7.4.1.3.
+-- What a ClientHello and a ServerHello begin with, version, random and session id: RULES 3.2, 3.3;
+-- RFC 5246 7.4.1.2, 7.4.1.3.
 use Rattle.refusal.specs.{[], _∷_, none, Answer, accepted, refused}
 use Rattle.wire.specs.{Absent}
 use Rattle.grammar.specs.{version, random, sessionId, Form}

@@ -1,4 +1,5 @@
-// What a ClientHello and a ServerHello begin with: version, random and session id (RFC 5246 7.4.1.2, 7.4.1.3).
+// What a ClientHello and a ServerHello begin with: version, random and session id (RFC 5246
+// 7.4.1.2, 7.4.1.3).
 ghost use mathlib.Core.Path.{_≡_};
 ghost use Rattle.grammar.specs.Forms.{absentIfEmpty, reading};
 ghost use Rattle.read_start.specs.Start.{helloStart, startSays};
@@ -10,6 +11,7 @@ use wire::view::OptView;
 use wire::view::PartAnswer;
 use wire::view::View;
 
+// Holds version, random and session id of a hello, and the place behind them.
 pub struct Start {
     pub version: u16,
     pub random: View,
@@ -17,6 +19,7 @@ pub struct Start {
     pub next: usize,
 }
 
+// Holds what a hello begins with, or the refusal.
 pub enum StartAnswer {
     Refused(Refusal),
     Got(Start),
@@ -32,6 +35,7 @@ fn non_empty(v: View) -> OptView
     OptView::Present(v)
 }
 
+// Reads version, random and session id at the front of a hello.
 pub fn parse_start(i: &[u8]) -> StartAnswer
     ensures { λ r. ⌜ startSays r ≡ reading helloStart (now (i .entry)) ⌝ }
 {
@@ -41,7 +45,7 @@ pub fn parse_start(i: &[u8]) -> StartAnswer
         }
         NumberAnswer::Got(n) => n,
     };
-    let random = match field::take(i, version.next, 32) {
+    let random = match field::take(i, version.next, registry::limit::RANDOM) {
         PartAnswer::Refused(r) => {
             return StartAnswer::Refused(r);
         }

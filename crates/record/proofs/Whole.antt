@@ -1,5 +1,5 @@
--- What demand 3 says of the hellos, of records, an instance of the one theorem; and equal numbers and values mean equal answers. Assumes
--- nothing.
+-- What demand 3 says of the hellos, of records, an instance of the one theorem; and equal numbers
+-- and values mean equal answers. Assumes nothing.
 use Prim.Native.Nat.{ℕ}
 use mathlib.Core.Path.{_≡_, refl}
 use mathlib.Core.List.{List}
@@ -17,7 +17,8 @@ use Rattle.record.specs.declared.TlsEncrypted.{TlsEncrypted}
 use Rattle.record.specs.declared.EncryptedAnswer.{EncryptedAnswer}
 
 raw-lawful : Lawful raw
-raw-lawful = record { suits = (refl, (refl, (tt, tt))); handed = λ o e t. refl; block = λ o e t. refl; tail = λ o e t. refl }
+raw-lawful =
+    record { suits = (refl, (refl, (tt, tt))); handed = λ o e t. refl; block = λ o e t. refl; tail = λ o e t. refl }
 
 pub all-records : (s : List ℕ) → Bytes s → BySplit raw s
 all-records = by-split raw raw-lawful

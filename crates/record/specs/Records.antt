@@ -1,12 +1,13 @@
--- Records that are not opened: document 01, "Records": "Type 1, version 2, length 2. Order: header Incomplete, TooLarge, body Incomplete";
--- RFC 5246 6.2.1. The rule of the length is `Fragment` of `field/specs/Fields.antt`.
+-- Records that are not opened: RULES 6.1 to 6.3; RFC 5246 6.2.1. The rule of the length is
+-- `Fragment` of `field/specs/Fields.antt`.
 use Rattle.refusal.specs.{ℕ, List, [], _∷_, none, Answer, accepted, refused, then, giving}
 use Rattle.wire.specs.{numberAt, Absent}
 use Rattle.field.specs.{Field, fixed, vector, ruleOf, Fragment}
 use Rattle.grammar.specs.{asView, asNumber, Form, reading}
 use Rattle.record.specs.declared.{EncryptedAnswer.EncryptedAnswer, RawRecordAnswer.RawRecordAnswer, RecordHeaderAnswer.RecordHeaderAnswer, TlsEncrypted.TlsEncrypted, TlsRawRecord.TlsRawRecord, TlsRecordHeader.TlsRecordHeader}
 
--- type 1, version 2, length 2. The length is told as it stands: TooLarge is given by the readers of a record
+-- type 1, version 2, length 2. The length is told as it stands: TooLarge is given by the readers of
+-- a record
 unfoldable pub header : List ℕ → Answer TlsRecordHeader
 header s =
     then (numberAt 1 s 0) (λ t.
@@ -17,7 +18,7 @@ header s =
 abbrev pub fragment : Field
 fragment = vector 2 (ruleOf Fragment)
 
--- "Raw and encrypted readers take any type": type 1, version 2, length 2 and content
+-- RULES 6.3: of any type
 abbrev pub raw : Form TlsRawRecord
 raw = record {
   grammar = record { rows = (fixed 1, asNumber 1) ∷ (fixed 2, asNumber 2) ∷ (fragment, asView) ∷ []; block = none };

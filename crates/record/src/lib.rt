@@ -9,41 +9,45 @@ use wire::number::Width;
 use wire::view::PartAnswer;
 use wire::view::View;
 
-// Five bytes.
+// Holds type, version and length of a record, its first five bytes.
 pub struct TlsRecordHeader {
     pub record_type: u8,
     pub version: u16,
     pub len: u16,
 }
 
+// Holds the header of a record, or the refusal.
 pub enum RecordHeaderAnswer {
     Refused(Refusal),
     Got(TlsRecordHeader),
 }
 
-// The crate's fields, and where the next record begins.
+// tls-parser's fields, and where the next record begins.
 pub struct TlsRawRecord {
     pub hdr: TlsRecordHeader,
     pub data: View,
     pub next: usize,
 }
 
+// Holds a record whose content is not opened, or the refusal.
 pub enum RawRecordAnswer {
     Refused(Refusal),
     Got(TlsRawRecord),
 }
 
+// Names the content of an encrypted record.
 pub struct TlsEncryptedContent {
     pub blob: View,
 }
 
-// The crate's fields, and where the next record begins.
+// tls-parser's fields, and where the next record begins.
 pub struct TlsEncrypted {
     pub hdr: TlsRecordHeader,
     pub msg: TlsEncryptedContent,
     pub next: usize,
 }
 
+// Holds an encrypted record, or the refusal.
 pub enum EncryptedAnswer {
     Refused(Refusal),
     Got(TlsEncrypted),
@@ -113,7 +117,7 @@ pub fn parse_tls_raw_record(i: &[u8]) -> RawRecordAnswer
     })
 }
 
-// The same, as content that is not to be opened.
+// Takes the record at the front as an encrypted one, whose content is not to be opened.
 pub fn parse_tls_encrypted(i: &[u8]) -> EncryptedAnswer
     ensures { λ r. ⌜ encryptedSays r ≡ encrypted (now (i .entry)) ⌝ }
 {

@@ -1,1 +1,1 @@
-pub mod Captures
+pub mod Joined

@@ -1,4 +1,4 @@
-// A capture: joined records. Every place is counted from the front of the bytes lent.
+// Joined records. Every place is counted from the front of the bytes lent.
 ghost use mathlib.Core.Path.{_≡_};
 ghost use Rattle.record.specs.Records.{rawSays};
 ghost use Rattle.record_joined.specs.Joined.{messagesIn, recordFrom, tallied, viewIn};
@@ -6,7 +6,8 @@ use record::RawRecordAnswer;
 use record::TlsRawRecord;
 use wire::view::View;
 
-// What `inner` names in the part that `outer` names, as a view of `s`; the empty view where it lies outside that part.
+// What `inner` names in the part that `outer` names, as a view of `s`; the empty view where it lies
+// outside that part.
 pub fn view_in(s: &[u8], outer: View, inner: View) -> View
     ensures { λ r. ⌜ r ≡ viewIn (now (s .entry)) outer inner ⌝ }
 {
@@ -51,19 +52,21 @@ fn messages_in(s: &[u8], r: TlsRawRecord) -> usize
 {
     let hdr = r.hdr;
     let content = r.data;
-    if hdr.record_type == 0x16 {
+    if hdr.record_type == registry::record::HANDSHAKE {
         return record_walk::count_messages(wire::view::part_of(s, content), 0).count;
     }
     0
 }
 
-// How many whole records there are up to the first that is refused, how many messages they hold, and where the last of them ends.
+// How many whole records there are up to the first that is refused, how many messages they hold,
+// and where the last of them ends.
 pub struct RecordTally {
     pub records: usize,
     pub messages: usize,
     pub end: usize,
 }
 
+// Counts joined records and their messages, from the front on.
 pub fn count_records(s: &[u8]) -> RecordTally
     ensures { λ r. ⌜ r ≡ tallied (now (s .entry)) ⌝ }
 {

@@ -11,7 +11,8 @@ use Rattle.envelope.proofs.Heads.{met-lies}
 use Rattle.record_walk.specs.Walks.{messages, messagesFrom, pastAll, dropped}
 use Rattle.record_walk.proofs.Walking.{one-more}
 
-module _ (content : List ℕ) {next : ℕ} (e : then (metAt content 0) (λ x. accepted (x .head .next)) ≡ accepted next) where
+module _ (content : List ℕ) {next : ℕ}
+    (e : then (metAt content 0) (λ x. accepted (x .head .next)) ≡ accepted next) where
   first : (x : Met) × (metAt content 0 ≡ accepted x) × (x .head .next ≡ next)
   first = let t = then-accepted (metAt content 0) (λ x. accepted (x .head .next)) e in (t .0, t .1, cc (t .2))
 

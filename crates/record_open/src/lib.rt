@@ -14,8 +14,9 @@ use refusal::Reason;
 use refusal::Refusal;
 use wire::view::View;
 
-// The crate's header; its messages as the bytes that hold them, which a `TlsRecordWalk` goes over, with their number; how many bytes at the
-// end of those hold none; and where the next record begins.
+// tls-parser's header; its messages as the bytes that hold them, which a `TlsRecordWalk` goes over,
+// with their number; how many bytes at the end of those hold none; and where the next record
+// begins.
 pub struct TlsPlaintext {
     pub hdr: TlsRecordHeader,
     pub msg: View,
@@ -24,6 +25,7 @@ pub struct TlsPlaintext {
     pub next: usize,
 }
 
+// Holds a handshake record with its counts, or the refusal.
 pub enum PlaintextAnswer {
     Refused(Refusal),
     Got(TlsPlaintext),
@@ -36,12 +38,14 @@ pub struct TlsPlaintextOpened {
     pub message: TlsMessageHandshake,
 }
 
+// Holds a handshake record with its first message, or the refusal.
 pub enum OpenedAnswer {
     Refused(Refusal),
     Got(TlsPlaintextOpened),
 }
 
-// What the refusal of the first message, in a record's content that begins at `at`, makes of the record.
+// What the refusal of the first message, in a record's content that begins at `at`, makes of the
+// record.
 fn first_refusal(r: Refusal, at: usize) -> Refusal
     ensures { λ x. ⌜ x ≡ firstRefusal at r ⌝ }
 {
@@ -51,53 +55,22 @@ fn first_refusal(r: Refusal, at: usize) -> Refusal
     refusal::inside(r, at)
 }
 
-// The record opened as handshake messages, with its content.
-fn open_handshake(outer: TlsRawRecord, content: &[u8]) -> PlaintextAnswer
-    ensures { λ r. ⌜ plaintextSays r ≡ then (handshakes outer (now (content .entry))) (λ x. accepted (x .«record»)) ⌝ }
-{
-    let hdr = outer.hdr;
-    let msg = outer.data;
-    let tally = record_walk::count_messages(content, 0);
-    if tally.count == 0 {
-        let stop = tally.stop;
-        return PlaintextAnswer::Refused(first_refusal(stop, msg.start));
-    }
-    PlaintextAnswer::Got(TlsPlaintext {
-        hdr,
-        msg,
-        count: tally.count,
-        dropped: content.len() - tally.end,
-        next: outer.next,
-    })
-}
-
 // Why a record of a type other than 0x16 is refused.
 fn other_type(record_type: u8) -> Refusal
     ensures { λ r. ⌜ r ≡ otherType «record_type» ⌝ }
 {
     match record_type {
-        0x14..=0x18 => refusal::refuse(Reason::Elsewhere, 0, 0),
+        registry::record::CHANGE_CIPHER_SPEC..=registry::record::HEARTBEAT => refusal::refuse(
+            Reason::Elsewhere,
+            0,
+            0,
+        ),
         0x00..=0x13 | 0x19..=0xff => refusal::refuse(Reason::Switch, 0, 0),
     }
 }
 
-pub fn parse_tls_plaintext(i: &[u8]) -> PlaintextAnswer
-    ensures { λ r. ⌜ plaintextSays r ≡ plaintext (now (i .entry)) ⌝ }
-{
-    let record = match record::parse_tls_raw_record(i) {
-        RawRecordAnswer::Refused(r) => {
-            return PlaintextAnswer::Refused(r);
-        }
-        RawRecordAnswer::Got(x) => x,
-    };
-    let record_type = record.hdr.record_type;
-    if record_type == 0x16 {
-        return open_handshake(record, wire::view::part_of(i, record.data));
-    }
-    PlaintextAnswer::Refused(other_type(record_type))
-}
-
-// The record with its content, whose first message is met and ends at `next`: the others are counted.
+// The record with its content, whose first message is met and ends at `next`: the others are
+// counted.
 fn count_others(outer: TlsRawRecord, content: &[u8], next: usize) -> TlsPlaintext
     requires { ⌜ then (metAt (now content) 0) (λ x. accepted (x .head .next)) ≡ accepted next ⌝ }
     ensures { λ r. ⌜ r ≡ plainRecord outer (now (content .entry)) ⌝ }
@@ -151,8 +124,21 @@ pub fn open_tls_plaintext(i: &[u8]) -> OpenedAnswer
         }
         RawRecordAnswer::Got(x) => x,
     };
-    if record.hdr.record_type == 0x16 {
+    if record.hdr.record_type == registry::record::HANDSHAKE {
         return open_first(record, wire::view::part_of(i, record.data));
     }
     OpenedAnswer::Refused(other_type(record.hdr.record_type))
+}
+
+// The record alone: what `open_tls_plaintext` finds, without its first message.
+pub fn parse_tls_plaintext(i: &[u8]) -> PlaintextAnswer
+    ensures { λ r. ⌜ plaintextSays r ≡ plaintext (now (i .entry)) ⌝ }
+{
+    match open_tls_plaintext(i) {
+        OpenedAnswer::Refused(r) => PlaintextAnswer::Refused(r),
+        OpenedAnswer::Got(x) => {
+            let record = x.record;
+            PlaintextAnswer::Got(record)
+        }
+    }
 }

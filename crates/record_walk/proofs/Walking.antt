@@ -1,4 +1,5 @@
--- The walk over a record's messages: that of `list/proofs/Walk.antt`, a message being what is found at a place. Assumes nothing.
+-- The walk over a record's messages: that of `list/proofs/Walk.antt`, a message being what is found
+-- at a place. Assumes nothing.
 use Prim.Native.Nat.{ℕ, zero, suc, _+_, _-_, _*_, _<_, _≤_}
 use mathlib.Core.Path.{_≡_, refl, sym, ap, _∙_}
 use mathlib.Core.Logic.{_⊎_, inl, inr}
@@ -9,14 +10,15 @@ use Rattle.refusal.specs.Answers.{Answer, accepted, refused, giving}
 use Rattle.refusal.specs.Refusals.{refusal}
 use Rattle.refusal.specs.declared.Reason.the-variants.{NoSuch}
 use Rattle.refusal.specs.declared.Refusal.{Refusal}
-use Rattle.refusal.proofs.Then.{not-both, then-accepted, then-refused, either}
+use Rattle.refusal.proofs.Then.{not-both, then-accepted, then-refused}
 use Rattle.list.specs.Items.{itemsFrom, place, orNoSuch}
-use Rattle.list.proofs.Walk.{Moves, rest, fuel, rest-on, rest-end, first, go-on, got, none, none-after, place-past}
+use Rattle.list.proofs.Walk.{Moves, rest, fuel, rest-on, first, go-on, got, none, none-after, place-past}
 use Rattle.message.specs.declared.handshake.TlsMessageHandshake.{TlsMessageHandshake}
 use Rattle.envelope.specs.Opening.{Met, metAt}
 use Rattle.envelope.specs.declared.TlsMessageHead.{TlsMessageHead}
 use Rattle.envelope.proofs.Heads.{met-lies}
-use Rattle.record_walk.specs.Walks.{messages, messagesFrom, pastAll, dropped, metHead, nextMessage, moved, walkAfter}
+use Rattle.record_walk.specs.Walks.{messages, messagesFrom, pastAll, dropped, metHead, nextMessage, moved}
+use Rattle.record_walk.specs.Walks.{walkAfter}
 use Rattle.record_walk.specs.Walking.{bytesOfAll, Walking}
 use Rattle.record_walk.specs.declared.TlsRecordWalk.{TlsRecordWalk}
 
@@ -34,11 +36,13 @@ pub all-from : (s : List ℕ) (at : ℕ) → messagesFrom s at ≡ left s at
 all-from s at = fuel (by-messages s) (length s) (length s - at) at (omega arith) (omega arith)
 
 -- the message that is met at a place, and those behind it
-pub one-more : (s : List ℕ) (at : ℕ) {x : Met} → metAt s at ≡ accepted x → messagesFrom s at ≡ x ∷ messagesFrom s (behind x)
+pub one-more : (s : List ℕ) (at : ℕ) {x : Met} → metAt s at ≡ accepted x → messagesFrom s at ≡ x
+    ∷ messagesFrom s (behind x)
 one-more s at {x} e = all-from s at ∙ rest-on (by-messages s) at e ∙ rw (all-from s (behind x))
 
 -- a message whose head is handed out was met
-pub head-met : (s : List ℕ) (at : ℕ) {h : TlsMessageHead} → metHead s at ≡ accepted h → (x : Met) × (metAt s at ≡ accepted x) × (behind x ≡ h .next)
+pub head-met : (s : List ℕ) (at : ℕ) {h : TlsMessageHead} → metHead s at ≡ accepted h → (x : Met)
+    × (metAt s at ≡ accepted x) × (behind x ≡ h .next)
 unfolding metHead
 head-met s at {h} e =
     let t = then-accepted (metAt s at) (λ x. accepted (x .head)) e in
@@ -49,7 +53,9 @@ pub head-not-met : (s : List ℕ) (at : ℕ) {r : Refusal} → metHead s at ≡ 
 unfolding metHead
 head-not-met s at {r} e = go (then-refused (metAt s at) (λ x. accepted (x .head)) e)
   where
-    go : (metAt s at ≡ refused r) ⊎ ((x : Met) × (metAt s at ≡ accepted x) × (_≡_ {A = Answer TlsMessageHead} (accepted (x .head)) (refused r))) → metAt s at ≡ refused r
+    go : (metAt s at ≡ refused r) ⊎
+        ((x : Met) × (metAt s at ≡ accepted x) × (_≡_ {A = Answer TlsMessageHead} (accepted (x .head)) (refused r)))
+        → metAt s at ≡ refused r
     go (inl x) = x
     go (inr (x, y, z)) = absurd (not-both refl z)
 
@@ -60,16 +66,21 @@ module _ (s : List ℕ) where
   past-in zero at h = h
   past-in (suc n) at h = go (λ k l. past-in n k l) (metAt s at) refl
     where
-      go : ((k : ℕ) → k ≤ length s → pastAll (itemsFrom n (metAt s) behind k) k ≤ length s) → (a : Answer Met) → metAt s at ≡ a → pastAll (itemsFrom (suc n) (metAt s) behind at) at ≤ length s
+      go : ((k : ℕ) → k ≤ length s → pastAll (itemsFrom n (metAt s) behind k) k ≤ length s) → (a : Answer Met)
+          → metAt s at ≡ a → pastAll (itemsFrom (suc n) (metAt s) behind at) at ≤ length s
       go ih (accepted x) e = rw e (ih (behind x) (met-lies s at e .inside))
       go ih (refused r) e = rw e h
 
-  past-bytes : (n at : ℕ) → pastAll (itemsFrom n (metAt s) behind at) at ≡ at + bytesOfAll (itemsFrom n (metAt s) behind at)
+  past-bytes : (n at : ℕ)
+      → pastAll (itemsFrom n (metAt s) behind at) at ≡ at + bytesOfAll (itemsFrom n (metAt s) behind at)
   unfolding itemsFrom pastAll bytesOfAll
   past-bytes zero at = omega arith
   past-bytes (suc n) at = go (λ k. past-bytes n k) (metAt s at) refl
     where
-      go : ((k : ℕ) → pastAll (itemsFrom n (metAt s) behind k) k ≡ k + bytesOfAll (itemsFrom n (metAt s) behind k)) → (a : Answer Met) → metAt s at ≡ a → pastAll (itemsFrom (suc n) (metAt s) behind at) at ≡ at + bytesOfAll (itemsFrom (suc n) (metAt s) behind at)
+      go : ((k : ℕ) → pastAll (itemsFrom n (metAt s) behind k) k ≡ k + bytesOfAll (itemsFrom n (metAt s) behind k))
+          → (a : Answer Met) → metAt s at ≡ a
+          → pastAll (itemsFrom (suc n) (metAt s) behind at) at ≡ at + bytesOfAll
+          (itemsFrom (suc n) (metAt s) behind at)
       go ih (accepted x) e = let i = met-lies s at e in rw e (omega (arith, ih (behind x), i .next))
       go ih (refused r) e = rw e (omega arith)
 
@@ -82,24 +93,15 @@ four-each [] = omega arith
 four-each (x ∷ xs) = omega (arith, four-each xs)
 
 -- from a place within the bytes on: where they end, and how many they are
-pub from-inside : (s : List ℕ) (at : ℕ) → at ≤ length s → (pastAll (messagesFrom s at) at ≤ length s) × (at + length (messagesFrom s at) * 4 ≤ length s)
+pub from-inside : (s : List ℕ) (at : ℕ) → at ≤ length s → (pastAll (messagesFrom s at) at ≤ length s)
+    × (at + length (messagesFrom s at) * 4 ≤ length s)
 from-inside s at h =
     let i = past-in s (length s) at h in
     (i, omega (arith, i, past-bytes s (length s) at, four-each (messagesFrom s at)))
 
--- what stands at the front
-none-first : (s : List ℕ) {r : Refusal} → metAt s 0 ≡ refused r → messages s ≡ []
-none-first s e = all-from s 0 ∙ rest-end (by-messages s) 0 e
-
-pub first-met : (s : List ℕ) → 0 < length (messages s) → (x : Met) × (metAt s 0 ≡ accepted x)
-first-met s h = go (either (metAt s 0))
-  where
-    go : ((x : Met) × (metAt s 0 ≡ accepted x)) ⊎ ((r : Refusal) × (metAt s 0 ≡ refused r)) → (x : Met) × (metAt s 0 ≡ accepted x)
-    go (inl x) = x
-    go (inr (r, e)) = absurd (omega (arith, ap length (none-first s e)))
-
 -- the walk moved on, by what is met
-moved-on : (s : List ℕ) (w : TlsRecordWalk) {x : Met} → metAt s (w .next) ≡ accepted x → moved s w ≡ record { body = x .head .body; next = behind x }
+moved-on : (s : List ℕ) (w : TlsRecordWalk) {x : Met} → metAt s (w .next) ≡ accepted x
+    → moved s w ≡ record { body = x .head .body; next = behind x }
 unfolding moved
 moved-on s w e = rw e
 
@@ -114,7 +116,9 @@ module _ (s : List ℕ) where
   stands zero = rw (all-from s 0) (sym (first (by-messages s) 0))
   stands (suc k) = go (metAt s (walkAfter k s .next)) refl (stands k)
     where
-      go : (a : Answer Met) → metAt s (walkAfter k s .next) ≡ a → orNoSuch (metAt s (walkAfter k s .next)) ≡ place k (messages s) → orNoSuch (metAt s (moved s (walkAfter k s) .next)) ≡ place (suc k) (messages s)
+      go : (a : Answer Met) → metAt s (walkAfter k s .next) ≡ a
+          → orNoSuch (metAt s (walkAfter k s .next)) ≡ place k (messages s)
+          → orNoSuch (metAt s (moved s (walkAfter k s) .next)) ≡ place (suc k) (messages s)
       go (accepted x) e ih =
           let p : place k (left s 0) ≡ accepted x = rw (← (all-from s 0)) (sym ih ∙ rw e) in
           rw (moved-on s (walkAfter k s) e, all-from s 0) (sym (go-on (by-messages s) k 0 p))
@@ -126,7 +130,8 @@ module _ (s : List ℕ) where
   unfolding nextMessage
   meets k = rw (stands k)
 
-  tells : (k : ℕ) (x : Met) → place k (messages s) ≡ accepted x → walkAfter (suc k) s ≡ record { body = x .head .body; next = behind x }
+  tells : (k : ℕ) (x : Met) → place k (messages s) ≡ accepted x
+      → walkAfter (suc k) s ≡ record { body = x .head .body; next = behind x }
   unfolding walkAfter
   tells k x e = moved-on s (walkAfter k s) (got (metAt s (walkAfter k s .next)) (stands k ∙ e))
 
@@ -134,7 +139,10 @@ module _ (s : List ℕ) where
   unfolding nextMessage
   stays w r e = go (then-refused (orNoSuch (metAt s (w .next))) (λ x. accepted (x .says)) e)
     where
-      go : (orNoSuch (metAt s (w .next)) ≡ refused r) ⊎ ((x : Met) × (orNoSuch (metAt s (w .next)) ≡ accepted x) × (_≡_ {A = Answer TlsMessageHandshake} (accepted (x .says)) (refused r))) → (r ≡ refusal NoSuch 0 0) × (moved s w ≡ w)
+      go : (orNoSuch (metAt s (w .next)) ≡ refused r) ⊎
+          ((x : Met) × (orNoSuch (metAt s (w .next)) ≡ accepted x)
+          × (_≡_ {A = Answer TlsMessageHandshake} (accepted (x .says)) (refused r))) → (r ≡ refusal NoSuch 0 0)
+          × (moved s w ≡ w)
       go (inl y) = let n = none (metAt s (w .next)) y in (n .2, moved-not s w (n .1))
       go (inr (x, y, z)) = absurd (not-both refl z)
 
@@ -149,5 +157,15 @@ module _ (s : List ℕ) where
 
 pub every-walk : (s : List ℕ) → Walking s
 every-walk s =
-    let more : (n : ℕ) → length s ≤ n → itemsFrom n (metAt s) behind 0 ≡ messages s = λ n h. fuel (by-messages s) n (length s) 0 (omega arith) (omega arith) in
-    record { meets = meets s; tells = tells s; stays = stays s; whole = whole s; steps = steps s; noneMore = more; ends = ends s }
+    let more : (n : ℕ) → length s ≤ n
+    → itemsFrom n (metAt s) behind 0 ≡ messages s =
+    λ n h. fuel (by-messages s) n (length s) 0 (omega arith) (omega arith) in
+    record {
+      meets = meets s;
+      tells = tells s;
+      stays = stays s;
+      whole = whole s;
+      steps = steps s;
+      noneMore = more;
+      ends = ends s;
+    }

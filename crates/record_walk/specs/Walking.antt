@@ -1,4 +1,4 @@
--- What is shown of the walk over every content: `proofs/Walking.antt`.
+-- What is shown of the walk over every content: RULES 6.6 to 6.8. Shown by `proofs/Walking.antt`.
 use Rattle.refusal.specs.{ℕ, suc, _+_, _*_, _<_, _≤_, _≡_, List, [], _∷_, length, refusal, accepted, refused, NoSuch, Refusal, giving}
 use Rattle.list.specs.{itemsFrom, place}
 use Rattle.envelope.specs.{Met, metAt}
@@ -17,7 +17,8 @@ pub record Walking (content : List ℕ) : Type 0 where
   pub tells : (k : ℕ) (x : Met) → place k (messages content) ≡ accepted x → walkAfter (suc k) content ≡ record { body = x .head .body; next = x .head .next }
   -- a walk that hands back no message says NoSuch and stays
   pub stays : (w : TlsRecordWalk) (r : Refusal) → nextMessage content w ≡ refused r → (r ≡ refusal NoSuch 0 0) × (moved content w ≡ w)
-  -- steps in proportion: each byte is one message's or is dropped, and each message has four at least
+  -- steps in proportion: each byte is one message's or is dropped, and each message has four at
+  -- least
   pub whole : bytesOfAll (messages content) + dropped content ≡ length content
   pub steps : length (messages content) * 4 ≤ length content
   -- the bound never ends them: by a larger one no more are found

@@ -1,6 +1,5 @@
--- The messages of a handshake record's content, and the walk over them. Document 01: "Later messages are taken until one is refused; the
--- bytes from there on are dropped, and their number is told", and "The record walk hands back the next message and the walk moved on; past
--- the last message it answers NoSuch and stays."
+-- The messages of a handshake record's content, and the walk over them: RULES 6.6 to 6.8; RFC 5246
+-- 6.2.1.
 use Rattle.refusal.specs.{ℕ, zero, suc, _-_, _≡_, List, [], _∷_, length, Answer, accepted, refused, giving}
 use Rattle.list.specs.{itemsFrom, orNoSuch}
 use Rattle.message.specs.{TlsMessageHandshake}

@@ -10,9 +10,11 @@ use envelope::HeadAnswer;
 use message::handshake::MessageAnswer;
 use refusal::Reason;
 use refusal::Refusal;
+use registry::handshake;
 use wire::view::View;
 
-// Where the walk stands: the body of the message handed out last, empty before the first, and where the next message begins.
+// Where the walk stands: the body of the message handed out last, empty before the first, and where
+// the next message begins.
 pub struct TlsRecordWalk {
     pub body: View,
     pub next: usize,
@@ -25,7 +27,7 @@ pub struct Walked {
 }
 
 impl TlsRecordWalk {
-    // At the first message.
+    // Makes a walk that stands before the first message.
     pub fn new() -> Self
         ensures { λ r. ⌜ r ≡ freshWalk ⌝ }
     {
@@ -33,7 +35,8 @@ impl TlsRecordWalk {
         TlsRecordWalk { body, next: 0 }
     }
 
-    // The message's views are of its body, `part_of(s, walk.body)` of the walk handed back.
+    // Hands out the next message and the walk moved on; the message's views are of its body,
+    // `part_of(s, walk.body)` of that walk.
     pub fn next(self, s: &[u8]) -> Walked
         ensures { λ r. ⌜ messageSays (r .message) ≡ nextMessage (now (s .entry)) self ⌝ }
         ensures { λ r. ⌜ r .walk ≡ moved (now (s .entry)) self ⌝ }
@@ -74,12 +77,17 @@ fn opens_any(msg_type: u8) -> bool
     ensures { λ r. ⌜ (r ≡ true → OpensAny «msg_type») × (OpensAny «msg_type» → r ≡ true) ⌝ }
 {
     match msg_type {
-        0x00 | 0x05 | 0x0c | 0x0e..=0x10 | 0x14 => true,
+        handshake::HELLO_REQUEST
+        | handshake::END_OF_EARLY_DATA
+        | handshake::SERVER_KEY_EXCHANGE
+        | handshake::SERVER_DONE..=handshake::CLIENT_KEY_EXCHANGE
+        | handshake::FINISHED => true,
         _ => false,
     }
 }
 
-// The head of the message that begins at `at`, where the message can be opened. The message itself is not handed out.
+// The head of the message that begins at `at`, where the message can be opened. The message itself
+// is not handed out.
 pub fn meet_tls_message(s: &[u8], at: usize) -> HeadAnswer
     ensures { λ r. ⌜ headSays r ≡ metHead (now (s .entry)) at ⌝ }
 {
@@ -106,7 +114,7 @@ pub struct Tally {
     pub stop: Refusal,
 }
 
-// The messages the first of which begins at `from`.
+// Counts the messages from `from` on, up to the first that is refused.
 pub fn count_messages(s: &[u8], from: usize) -> Tally
     ensures { λ r. ⌜ r .count ≡ length (messagesFrom (now (s .entry)) from) ⌝ }
     ensures { λ r. ⌜ r .end ≡ pastAll (messagesFrom (now (s .entry)) from) from ⌝ }

@@ -10,11 +10,13 @@ use Rattle.refusal.specs.declared.Refusal.{Refusal}
 pub not-both : {A : Type 0} {a : A} {r : Refusal} {x : Answer A} → x ≡ accepted a → x ≡ refused r → ⊥
 not-both p q = let z : _≡_ {A = ℕ} 0 1 = cc in omega arith
 
-pub then-accepted : {A B : Type 0} (x : Answer A) (k : A → Answer B) {b : B} → then x k ≡ accepted b → (a : A) × (x ≡ accepted a) × (k a ≡ accepted b)
+pub then-accepted : {A B : Type 0} (x : Answer A) (k : A → Answer B) {b : B} → then x k ≡ accepted b → (a : A)
+    × (x ≡ accepted a) × (k a ≡ accepted b)
 then-accepted (accepted a) k e = (a, refl, e)
 then-accepted (refused r) k e = absurd (not-both e refl)
 
-pub then-refused : {A B : Type 0} (x : Answer A) (k : A → Answer B) {r : Refusal} → then x k ≡ refused r → (x ≡ refused r) ⊎ ((a : A) × (x ≡ accepted a) × (k a ≡ refused r))
+pub then-refused : {A B : Type 0} (x : Answer A) (k : A → Answer B) {r : Refusal} → then x k ≡ refused r
+    → (x ≡ refused r) ⊎ ((a : A) × (x ≡ accepted a) × (k a ≡ refused r))
 then-refused (accepted a) k e = inr (a, refl, e)
 then-refused (refused r) k e = inl (let d : refused r ≡ refused _ = e in cc)
 

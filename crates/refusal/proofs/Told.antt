@@ -1,5 +1,5 @@
--- Numbers and values lose nothing: two answers with the same number of the paper and the same values are the same answer.
--- Assumes nothing.
+-- Numbers and values lose nothing: two answers with the same number of the table and the same
+-- values are the same answer. RULES 9.1. Assumes nothing.
 use Prim.Native.Nat.{ℕ}
 use mathlib.Core.Path.{_≡_, refl, sym, ap, _∙_}
 use mathlib.Core.List.{List, [], _∷_}
@@ -8,12 +8,15 @@ use lib.ListN.{getD}
 use Rattle.refusal.specs.Refusals.{numberOf, refusal, unplaced, inside, NumbersApart}
 use Rattle.refusal.specs.Answers.{Answer, accepted, refused, TellSame, OneResult}
 use Rattle.refusal.specs.declared.Reason.{Reason}
-use Rattle.refusal.specs.declared.Reason.the-variants.{Incomplete, Complete, Verify, LengthValue, Tag, Switch, TooLarge, BadLength, NoRoom, Elsewhere, NoSuch, NotYetImplemented}
+use Rattle.refusal.specs.declared.Reason.the-variants.{Incomplete, Complete, Verify, LengthValue, Tag, Switch}
+use Rattle.refusal.specs.declared.Reason.the-variants.{TooLarge, BadLength, NoRoom, Elsewhere, NoSuch}
+use Rattle.refusal.specs.declared.Reason.the-variants.{NotYetImplemented}
 use Rattle.refusal.specs.declared.Refusal.{Refusal}
 
 -- the table's rows, from 1 on
 rows : List Reason
-rows = Incomplete ∷ Incomplete ∷ Complete ∷ Verify ∷ LengthValue ∷ Tag ∷ Switch ∷ TooLarge ∷ BadLength ∷ NoRoom ∷ Elsewhere ∷ NoSuch ∷ NotYetImplemented ∷ []
+rows = Incomplete ∷ Incomplete ∷ Complete ∷ Verify ∷ LengthValue ∷ Tag ∷ Switch ∷ TooLarge ∷ BadLength ∷ NoRoom
+    ∷ Elsewhere ∷ NoSuch ∷ NotYetImplemented ∷ []
 
 row-of : (r : Reason) → getD rows (numberOf r) Incomplete ≡ r
 unfolding rows
@@ -43,7 +46,7 @@ pub unplaced-reason : (why : Reason) → unplaced why .reason ≡ why
 unfolding unplaced
 unplaced-reason why = refl
 
--- no place is told today: one without a place, inside a part, is that of any place
+-- no place is told: one without a place, inside a part, is that of any place
 pub unplaced-inside : (why : Reason) (at lack start : ℕ) → inside start (unplaced why) ≡ refusal why at lack
 unfolding refusal unplaced inside
 unplaced-inside why at lack start = refl
@@ -85,5 +88,6 @@ pub case : {A B : Type 0} (says : B → Answer A) {o x : B} {a : Answer A} → s
 case says e g = sym e ∙ ap says g
 
 -- an enum with a way back from what it says loses nothing either
-pub tells-all : {A B : Type 0} (says : B → Answer A) (back : Answer A → B) → ((b : B) → back (says b) ≡ b) → OneResult says
+pub tells-all : {A B : Type 0} (says : B → Answer A) (back : Answer A → B) → ((b : B) → back (says b) ≡ b)
+    → OneResult says
 tells-all says back home x y e = sym (home x) ∙ ap back (told (says x) (says y) e) ∙ home y

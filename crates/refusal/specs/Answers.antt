@@ -1,5 +1,5 @@
--- Demand 1: a call ends with a value or one refusal. Each answer of the code that is an enum has its `Says`, by cases, into this: the
--- paper's number and the values.
+-- An answer, which is a value or one refusal: RULES 0.1, 9.1, 10.16. Each answer of the code that
+-- is an enum has its `Says`, by cases, into this: the table's number and the values.
 use Rattle.refusal.specs.Words.{ℕ, _≡_, Option, none, some}
 use Rattle.refusal.specs.Refusals.{numberOf, inside}
 use Rattle.refusal.specs.declared.Refusal.{Refusal}
@@ -8,7 +8,7 @@ pub data Answer (A : Type 0) : Type 0 where
   accepted : A → Answer A
   refused : Refusal → Answer A
 
--- the paper's number: 0 accepted, 1 to 12 the table's
+-- the table's number: 0 accepted, 1 to 12 a refusal's
 abbrev pub numberIn : {A : Type 0} → Answer A → ℕ
 numberIn (accepted a) = 0
 numberIn (refused r) = numberOf (r .reason)
@@ -26,7 +26,7 @@ TellSame x y = (numberIn x ≡ numberIn y) × (valuesIn x ≡ valuesIn y)
 abbrev pub OneResult : {A B : Type 0} → (B → Answer A) → Type 0
 OneResult {A} {B} says = (x y : B) → TellSame (says x) (says y) → x ≡ y
 
--- go on with the value, or hand on the refusal: the Rust's `?`
+-- RULES 10.2: go on with the value, or hand on the refusal, as tls-parser's `?` does
 abbrev pub then : {A B : Type 0} → Answer A → (A → Answer B) → Answer B
 then (accepted a) k = k a
 then (refused r) k = refused r

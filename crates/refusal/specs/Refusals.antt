@@ -1,4 +1,4 @@
--- Document 01, "What the tap says when it says no": the table's numbers, and what a refusal is made from.
+-- The numbers of the table of refusals, and what a refusal is made from: RULES 1.1, 1.3.
 use Rattle.refusal.specs.Words.{ℕ, _≡_, _⊎_, List, [], _∷_}
 use Rattle.refusal.specs.declared.{Reason.Reason, Refusal.Refusal}
 use Rattle.refusal.specs.declared.Reason.the-variants.{Incomplete, Complete, Verify, LengthValue, Tag, Switch, TooLarge, BadLength, NoRoom, Elsewhere, NoSuch, NotYetImplemented}
@@ -27,16 +27,19 @@ abbrev pub OneOf : List Reason → ℕ → Type 0
 OneOf [] n = n ≡ 0
 OneOf (why ∷ whys) n = (n ≡ numberOf why) ⊎ OneOf whys n
 
--- the refusal of an item that begins at a place and lacks so many bytes. "A refusal carries its number alone": place and shortfall are
--- dropped, and whatever numbers stand there, it is the same refusal
+-- the refusal of an item that begins at a place and lacks so many bytes. RULES 1.3: a refusal is
+-- its number, so place and shortfall are dropped, and whatever numbers stand there, it is the same
+-- refusal
 unfoldable pub refusal : Reason → ℕ → ℕ → Refusal
 refusal why at lack = record { reason = why }
 
--- a refusal of no byte that was lent to be read: every refusal to write, and that of a type handed over apart from its body
+-- a refusal of no byte that was lent to be read: every refusal to write, and that of a type handed
+-- over apart from its body
 unfoldable pub unplaced : Reason → Refusal
 unplaced why = record { reason = why }
 
--- the refusal of what lies inside a part that begins at a place and is whole: its item begins so much later in the bytes lent, and no
--- further byte helps. It carries its number alone, so it stays as it is
+-- the refusal of what lies inside a part that begins at a place and is whole: its item begins so
+-- much later in the bytes lent, and no further byte helps. It carries its number alone, so it stays
+-- as it is
 unfoldable pub inside : ℕ → Refusal → Refusal
 inside at r = r

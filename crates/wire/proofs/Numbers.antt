@@ -1,4 +1,5 @@
--- The number of w bytes and the w bytes of a number: each undoes the other, over the width. Assumes nothing.
+-- The number of w bytes and the w bytes of a number: each undoes the other, over the width. Assumes
+-- nothing.
 use Prim.Native.Nat.{ℕ, zero, suc, _+_, _*_, _/_, _%_, _^_, _<_, _≤_}
 use mathlib.Core.Path.{_≡_, refl, ap, ap₂, sym, _∙_}
 use mathlib.Core.Logic.{_⊎_, inl, inr}
@@ -40,7 +41,12 @@ unfolding be bytesOf
 be-of zero n rest h = omega arith
 be-of (suc w) n rest h =
     let q : n / 256 < 256 ^ w = omega (arith, rw pow-suc at h) in
-    rw (append-assoc, be-of w (n / 256) (n % 256 ∷ rest) q, zero-add, getD-at (bytesOf w (n / 256)) (n % 256) rest 0 w (length-bytes w (n / 256)))
+    rw (
+      append-assoc,
+      be-of w (n / 256) (n % 256 ∷ rest) q,
+      zero-add,
+      getD-at (bytesOf w (n / 256)) (n % 256) rest 0 w (length-bytes w (n / 256)),
+    )
     (div-add-mod' n 256)
 
 -- one byte more
@@ -78,11 +84,13 @@ width-bounds Three = (omega arith, omega arith)
 width-bounds Four = (omega arith, omega arith)
 
 -- the number at a place, by the answer for its bytes
-pub number-got : (w : ℕ) (s : List ℕ) (at : ℕ) {p : Part} → partAt Incomplete s at w ≡ accepted p → numberAt w s at ≡ accepted (record { value = be w s at; next = p .next })
+pub number-got : (w : ℕ) (s : List ℕ) (at : ℕ) {p : Part} → partAt Incomplete s at w ≡ accepted p
+    → numberAt w s at ≡ accepted (record { value = be w s at; next = p .next })
 unfolding numberAt
 number-got w s at e = rw e
 
-pub number-no : (w : ℕ) (s : List ℕ) (at : ℕ) {r : Refusal} → partAt Incomplete s at w ≡ refused r → numberAt w s at ≡ refused r
+pub number-no : (w : ℕ) (s : List ℕ) (at : ℕ) {r : Refusal} → partAt Incomplete s at w ≡ refused r
+    → numberAt w s at ≡ refused r
 unfolding numberAt
 number-no w s at e = rw e
 
@@ -104,9 +112,13 @@ number-value w s at e = sym (ap (λ (l : Number). l .value) (number-is w s at e 
 
 pub number-short : (w : ℕ) (s : List ℕ) (at : ℕ) {r : Refusal} → numberAt w s at ≡ refused r → Short Incomplete s at w r
 unfolding numberAt
-number-short w s at {r} e = go (then-refused (partAt Incomplete s at w) (λ p. accepted (record { value = be w s at; next = p .next })) e)
+number-short w s at {r} e =
+    go (then-refused (partAt Incomplete s at w) (λ p. accepted (record { value = be w s at; next = p .next })) e)
   where
-    go : (partAt Incomplete s at w ≡ refused r) ⊎ ((p : Part) × (partAt Incomplete s at w ≡ accepted p) × (_≡_ {A = Answer Number} (accepted (record { value = be w s at; next = p .next })) (refused r))) → Short Incomplete s at w r
+    go : (partAt Incomplete s at w ≡ refused r) ⊎
+        ((p : Part) × (partAt Incomplete s at w ≡ accepted p)
+        × (_≡_ {A = Answer Number} (accepted (record { value = be w s at; next = p .next })) (refused r)))
+        → Short Incomplete s at w r
     go (inl q) = short Incomplete s at w q
     go (inr (p, q, z)) = absurd (not-both refl z)
 

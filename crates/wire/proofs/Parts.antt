@@ -1,4 +1,5 @@
--- Laws of the bytes from a place on: where they fit, where they run past the end, and what either answer says. Assumes nothing.
+-- Laws of the bytes from a place on: where they fit, where they run past the end, and what either
+-- answer says. Assumes nothing.
 use Prim.Native.Nat.{ℕ, _+_, _-_, _<_, _≤_}
 use mathlib.Core.Path.{_≡_, refl, sym, _∙_}
 use mathlib.Core.List.{List}
@@ -62,7 +63,8 @@ pub part-in : (r : Reason) (s : List ℕ) (at n : ℕ) → at + n ≤ length s �
 unfolding partAt
 part-in r s at n h = or-in _ s at n h
 
-pub part-out : (r : Reason) (s : List ℕ) (at n : ℕ) → length s < at + n → partAt r s at n ≡ refused (refusal r at (n - (length s - at)))
+pub part-out : (r : Reason) (s : List ℕ) (at n : ℕ) → length s < at + n
+    → partAt r s at n ≡ refused (refusal r at (n - (length s - at)))
 unfolding partAt
 part-out r s at n h = or-out _ s at n h
 
@@ -91,7 +93,8 @@ pub room-fits : (d : List ℕ) (at n : ℕ) {p : Part} → roomAt d at n ≡ acc
 unfolding roomAt
 room-fits d at n e = or-fits _ d at n e
 
-pub room-short : (d : List ℕ) (at n : ℕ) {r : Refusal} → roomAt d at n ≡ refused r → (r ≡ unplaced NoRoom) × (length d < at + n)
+pub room-short : (d : List ℕ) (at n : ℕ) {r : Refusal} → roomAt d at n ≡ refused r → (r ≡ unplaced NoRoom)
+    × (length d < at + n)
 unfolding roomAt
 room-short d at n e = or-short _ d at n e
 

@@ -1,4 +1,5 @@
--- Numbers of any width. Document 01: "Numbers are big-endian." RFC 5246 4.1 gives the sum of the bytes, 4.4 the widths.
+-- Numbers of any width, the highest byte first: RULES 2.1, 2.3. RFC 5246 4.1 gives the sum of the
+-- bytes, 4.4 the widths.
 use Rattle.refusal.specs.{ℕ, zero, suc, _+_, _*_, _/_, _%_, _^_, _<_, _≤_, _≡_, List, [], _∷_, _++_, length, take, getD, ltb, unplaced, Answer, accepted, refused, Incomplete, BadLength, giving}
 use Rattle.wire.specs.Parts.{pick, partAt}
 use Rattle.wire.specs.declared.{number.Number.Number, number.NumberAnswer.NumberAnswer, number.Width.Width}

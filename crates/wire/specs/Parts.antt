@@ -1,5 +1,5 @@
--- Parts of the bytes lent: what a view names, and the bytes from a place on. Document 01: "a view that lies outside the bytes given with it
--- yields the empty part".
+-- Parts of the bytes lent: what a view names, and the bytes from a place on. RULES 2.6: a view that
+-- does not lie within the bytes gives the empty part.
 use Rattle.refusal.specs.{ℕ, _+_, _-_, List, [], _∷_, Bool, true, false, Option, none, some, length, take, drop, leb, eqb, refusal, Answer, accepted, refused, Reason, Refusal}
 use Rattle.wire.specs.declared.{view.OptView.OptView, view.Part.Part, view.PartAnswer.PartAnswer, view.View.View}
 use Rattle.wire.specs.declared.view.OptView.the-variants.{Absent, Present}

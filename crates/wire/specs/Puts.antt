@@ -1,5 +1,5 @@
--- Writing into a lent buffer. Document 01: "A refused write leaves the output exactly as lent; an accepted one sets its first n bytes,
--- reports n, and touches no others."
+-- Writing into a lent buffer: RULES 1.5. A refused write leaves each byte as it was lent; an
+-- accepted one puts its text in, tells the place past it, and leaves the others.
 use Rattle.refusal.specs.{ℕ, _+_, List, _++_, length, take, drop, leb, unplaced, Answer, accepted, refused, NoRoom}
 use Rattle.wire.specs.Parts.{pick, partOr}
 use Rattle.wire.specs.declared.{output.WriteAnswer.WriteAnswer, view.Part.Part}

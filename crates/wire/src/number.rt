@@ -24,11 +24,13 @@ pub struct Number {
     pub next: usize,
 }
 
+// Holds a number with the place behind it, or the refusal.
 pub enum NumberAnswer {
     Refused(Refusal),
     Got(Number),
 }
 
+// Tells how many bytes a width is.
 pub fn width_bytes(w: Width) -> usize
     ensures { λ r. ⌜ r ≡ bytesIn w ⌝ }
 {
@@ -102,7 +104,8 @@ fn put_number(out: &mut [u8], at: usize, count: usize, n: usize)
     }
 }
 
-// Writes `n` at a place: BadLength where the width cannot hold it, then NoRoom. A refusal changes no byte.
+// Writes `n` at a place: BadLength where the width cannot hold it, then NoRoom. A refusal changes
+// no byte.
 pub fn gen_be(out: &mut [u8], at: usize, w: Width, n: usize) -> WriteAnswer
     ensures { λ r. ⌜ writeSays r ≡ room (numberText (bytesIn w) n) at (now (out .entry)) ⌝ }
     ensures { λ _. ⌜ now (out .exit) ≡ written (numberText (bytesIn w) n) at (now (out .entry)) ⌝ }

@@ -24,6 +24,7 @@ pub struct Part {
     pub next: usize,
 }
 
+// Holds a part with the place behind it, or the refusal.
 pub enum PartAnswer {
     Refused(Refusal),
     Got(Part),
@@ -44,7 +45,7 @@ pub fn part_of(body: &[u8], v: View) -> &[u8]
     &body[start..start + len]
 }
 
-// The part of `body` that `v` names, or the empty part where there is none.
+// The part of `body` that `v` names, or the empty part where it is absent or lies outside.
 pub fn opt_part_of(body: &[u8], v: OptView) -> &[u8]
     ensures { λ r. ⌜ now r ≡ optPartOf (now (body .entry)) v ⌝ }
 {

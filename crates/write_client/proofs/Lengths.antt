@@ -1,4 +1,5 @@
--- How long a ClientHello that may be written is, and the most that its parts can be. Assumes nothing.
+-- How long a ClientHello that may be written is, and the most that its parts can be. Assumes
+-- nothing.
 use Prim.Native.Nat.{ℕ, _+_, _%_, _≤_}
 use mathlib.Core.Path.{_≡_}
 use mathlib.Core.List.{List}
@@ -14,7 +15,8 @@ use Rattle.write_rules.specs.HelloTexts.{helloBytes}
 use Rattle.write_rules.proofs.Hellos.{Obeyed}
 
 pub client-length : (s : List ℕ) (m : TlsClientHelloContents) → Obeyed client s m
-    → length (helloBytes client s m) ≡ 40 + length (optPartOf s (m .«session_id»)) + length (partOf s (m .ciphers)) + length (partOf s (m .comp)) + length (optPartOf s (m .ext))
+    → length (helloBytes client s m) ≡ 40 + length (optPartOf s (m .«session_id»)) + length
+    (partOf s (m .ciphers)) + length (partOf s (m .comp)) + length (optPartOf s (m .ext))
 unfolding helloBytes
 client-length s m h = simp (length-append, length-bytes, h .fields .1 .0) (omega arith)
 

@@ -4,11 +4,12 @@ ghost use mathlib.Core.Path.{_≡_};
 ghost use Prim.Native.Nat.{_≤_};
 ghost use lib.ListN.{length};
 ghost use Rattle.read_client.specs.Client.{client};
+ghost use Rattle.registry.specs.Types.{clientHelloType};
 ghost use Rattle.write_rules.specs.HelloTexts.{helloBytes, helloText, mayWrite};
 ghost use Rattle.write_rules.specs.MessageTexts.{headText, messageText};
 ghost use Rattle.wire.specs.Puts.{put, room, written, writeSays};
-use read_client::TlsClientHelloContents;
 use field::RuleName;
+use read_client::TlsClientHelloContents;
 use refusal::Reason;
 use wire::number::Width;
 use wire::output::WriteAnswer;
@@ -20,7 +21,7 @@ fn writable(m: TlsClientHelloContents, i: &[u8]) -> bool
 {
     let id = m.session_id;
     let ext = m.ext;
-    if !write_rules::fixed_may(i, m.random, 32) {
+    if !write_rules::fixed_may(i, m.random, registry::limit::RANDOM) {
         return false;
     }
     if !write_rules::opt_part_may(i, id, Width::One, RuleName::SessionId) {
@@ -68,10 +69,10 @@ fn put_fields(m: TlsClientHelloContents, i: &[u8], out: &mut [u8])
     field::gen_length_data(out, past_comp, Width::Two, RuleName::Plain, ext);
 }
 
-// Writes the message: BadLength, then NoRoom. A refusal changes no byte.
+// Writes a ClientHello as a message: BadLength, then NoRoom. A refusal changes no byte.
 pub fn gen_tls_clienthello(m: TlsClientHelloContents, i: &[u8], out: &mut [u8]) -> WriteAnswer
-    ensures { λ r. ⌜ writeSays r ≡ room (messageText (headText 0x01) (helloText client (now (i .entry)) m)) 0 (now (out .entry)) ⌝ }
-    ensures { λ _. ⌜ now (out .exit) ≡ written (messageText (headText 0x01) (helloText client (now (i .entry)) m)) 0 (now (out .entry)) ⌝ }
+    ensures { λ r. ⌜ writeSays r ≡ room (messageText (headText clientHelloType) (helloText client (now (i .entry)) m)) 0 (now (out .entry)) ⌝ }
+    ensures { λ _. ⌜ now (out .exit) ≡ written (messageText (headText clientHelloType) (helloText client (now (i .entry)) m)) 0 (now (out .entry)) ⌝ }
 {
     if !writable(m, i) {
         return WriteAnswer::Refused(refusal::unplaced(Reason::BadLength));
@@ -81,7 +82,7 @@ pub fn gen_tls_clienthello(m: TlsClientHelloContents, i: &[u8], out: &mut [u8]) 
         PartAnswer::Refused(r) => WriteAnswer::Refused(r),
         PartAnswer::Got(p) => {
             put_fields(m, i, &mut out[4..]);
-            write_rules::gen_head(out, 0x01, n);
+            write_rules::gen_head(out, registry::handshake::CLIENT_HELLO, n);
             WriteAnswer::Wrote(p.next)
         }
     }

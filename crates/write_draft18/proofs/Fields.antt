@@ -1,5 +1,5 @@
--- The fields of a ServerHello of TLS 1.3 draft 18, written one behind the other into a buffer with room for them, are its text.
--- Assumes nothing.
+-- The fields of a ServerHello of TLS 1.3 draft 18, written one behind the other into a buffer with
+-- room for them, are its text. Assumes nothing.
 use Prim.Native.Nat.{ℕ, _<_, _≤_}
 use mathlib.Core.Path.{_≡_, refl}
 use mathlib.Core.List.{List}
@@ -17,7 +17,8 @@ use Rattle.write_rules.specs.HelloTexts.{helloBytes}
 use Rattle.write_rules.proofs.Hellos.{Obeyed}
 use Rattle.write_rules.proofs.Fields.{begin, and, number, close}
 
-pub draft18-put : (d s : List ℕ) (m : TlsServerHelloV13Draft18Contents) (o₁ o₂ o₃ o₄ : List ℕ) → Obeyed draft18 s m → length (helloBytes draft18 s m) ≤ length d
+pub draft18-put : (d s : List ℕ) (m : TlsServerHelloV13Draft18Contents) (o₁ o₂ o₃ o₄ : List ℕ) → Obeyed draft18 s m
+    → length (helloBytes draft18 s m) ≤ length d
     → m .version < 65536 → m .cipher < 65536
     → o₁ ≡ written (numberText 2 (m .version)) 0 d
     → o₂ ≡ written (accepted (partOf s (m .random))) 2 o₁
@@ -28,6 +29,7 @@ unfolding helloBytes
 draft18-put d s m o₁ o₂ o₃ o₄ h f v c e₁ e₂ e₃ e₄ =
     let a = begin d (helloBytes draft18 s m) f in
     let a₁ = number 2 _ 2 (m .version) a v e₁ (omega arith) in
-    let a₂ = and 34 _ (random .0) (partOf s (m .random)) a₁ {t = accepted (partOf s (m .random))} refl e₂ (omega (arith, h .fields .1 .0)) in
+    let a₂ = and 34 _ (random .0) (partOf s (m .random)) a₁ {t = accepted (partOf s (m .random))} refl e₂
+    (omega (arith, h .fields .1 .0)) in
     let a₃ = number 36 _ 2 (m .cipher) a₂ c e₃ (omega arith) in
     close extensions (optPartOf s (m .ext)) a₃ (h .last) e₄

@@ -1,4 +1,5 @@
--- How long a ServerHello of TLS 1.3 draft 18 that may be written is, and the most that its parts can be. Assumes nothing.
+-- How long a ServerHello of TLS 1.3 draft 18 that may be written is, and the most that its parts
+-- can be. Assumes nothing.
 use Prim.Native.Nat.{ℕ, _+_, _≤_}
 use mathlib.Core.Path.{_≡_}
 use mathlib.Core.List.{List}
@@ -11,7 +12,8 @@ use Rattle.read_server.specs.declared.tlsv13draft18.TlsServerHelloV13Draft18Con
 use Rattle.write_rules.specs.HelloTexts.{helloBytes}
 use Rattle.write_rules.proofs.Hellos.{Obeyed}
 
-pub draft18-length : (s : List ℕ) (m : TlsServerHelloV13Draft18Contents) → Obeyed draft18 s m → length (helloBytes draft18 s m) ≡ 38 + length (optPartOf s (m .ext))
+pub draft18-length : (s : List ℕ) (m : TlsServerHelloV13Draft18Contents) → Obeyed draft18 s m
+    → length (helloBytes draft18 s m) ≡ 38 + length (optPartOf s (m .ext))
 unfolding helloBytes
 draft18-length s m h = simp (length-append, length-bytes, h .fields .1 .0) (omega arith)
 

@@ -4,12 +4,13 @@ ghost use mathlib.Core.Path.{_≡_};
 ghost use Prim.Native.Nat.{_≤_};
 ghost use lib.ListN.{length};
 ghost use Rattle.read_server.specs.Server.{draft18};
+ghost use Rattle.registry.specs.Types.{serverHelloType};
 ghost use Rattle.write_rules.specs.HelloTexts.{helloBytes, helloText, mayWrite};
 ghost use Rattle.write_rules.specs.MessageTexts.{headText, messageText};
 ghost use Rattle.wire.specs.Puts.{put, room, written, writeSays};
 use field::RuleName;
-use refusal::Reason;
 use read_server::tlsv13draft18::TlsServerHelloV13Draft18Contents;
+use refusal::Reason;
 use wire::number::Width;
 use wire::output::WriteAnswer;
 use wire::view::PartAnswer;
@@ -19,7 +20,7 @@ fn writable(m: TlsServerHelloV13Draft18Contents, i: &[u8]) -> bool
     ensures { λ r. ⌜ r ≡ mayWrite draft18 (now (i .entry)) m ⌝ }
 {
     let ext = m.ext;
-    if !write_rules::fixed_may(i, m.random, 32) {
+    if !write_rules::fixed_may(i, m.random, registry::limit::RANDOM) {
         return false;
     }
     write_rules::opt_part_may(i, ext, Width::Two, RuleName::Plain)
@@ -47,14 +48,14 @@ fn put_fields(m: TlsServerHelloV13Draft18Contents, i: &[u8], out: &mut [u8])
     field::gen_length_data(out, 36, Width::Two, RuleName::Plain, ext);
 }
 
-// Writes the message: BadLength, then NoRoom. A refusal changes no byte.
+// Writes a ServerHello of draft 18 as a message: BadLength, then NoRoom. A refusal changes no byte.
 pub fn gen_tls_serverhellodraft18(
     m: TlsServerHelloV13Draft18Contents,
     i: &[u8],
     out: &mut [u8],
 ) -> WriteAnswer
-    ensures { λ r. ⌜ writeSays r ≡ room (messageText (headText 0x02) (helloText draft18 (now (i .entry)) m)) 0 (now (out .entry)) ⌝ }
-    ensures { λ _. ⌜ now (out .exit) ≡ written (messageText (headText 0x02) (helloText draft18 (now (i .entry)) m)) 0 (now (out .entry)) ⌝ }
+    ensures { λ r. ⌜ writeSays r ≡ room (messageText (headText serverHelloType) (helloText draft18 (now (i .entry)) m)) 0 (now (out .entry)) ⌝ }
+    ensures { λ _. ⌜ now (out .exit) ≡ written (messageText (headText serverHelloType) (helloText draft18 (now (i .entry)) m)) 0 (now (out .entry)) ⌝ }
 {
     if !writable(m, i) {
         return WriteAnswer::Refused(refusal::unplaced(Reason::BadLength));
@@ -64,7 +65,7 @@ pub fn gen_tls_serverhellodraft18(
         PartAnswer::Refused(r) => WriteAnswer::Refused(r),
         PartAnswer::Got(p) => {
             put_fields(m, i, &mut out[4..]);
-            write_rules::gen_head(out, 0x02, n);
+            write_rules::gen_head(out, registry::handshake::SERVER_HELLO, n);
             WriteAnswer::Wrote(p.next)
         }
     }

@@ -1,5 +1,5 @@
--- A message whose body is one part, or none: what the body is where the part may be written, and what is told where it may not.
--- Assumes nothing.
+-- A message whose body is one part, or none: what the body is where the part may be written, and
+-- what is told where it may not. Assumes nothing.
 use Prim.Native.Nat.{ℕ, _+_, _^_, _<_, _≤_}
 use mathlib.Core.Path.{_≡_, refl, sym, ap, _∙_}
 use mathlib.Core.List.{List, [], _++_, append-nil}
@@ -35,16 +35,20 @@ empty msgType =
 
 -- a part that lies outside, or is too long for the field, is no text of it
 not-field : (w : ℕ) (t : Bool) (p : List ℕ) → (t && allowed (sized w) (length p)) ≡ false
-    → then (pick t (accepted p) (refused (unplaced BadLength))) (λ q. fieldText (sized w) q) ≡ refused (unplaced BadLength)
+    → then (pick t (accepted p) (refused (unplaced BadLength))) (λ q. fieldText (sized w) q) ≡ refused
+    (unplaced BadLength)
 not-field w true p e = text-not (sized w) p e
 not-field w false p e = refl
 
 -- a message's text is its body's behind a length of three bytes, and the type before them
-behind-three : (msgType : ℕ) (b : Answer (List ℕ)) → messageText (headText msgType) b ≡ then (then b (λ p. fieldText (sized 3) p)) (λ t. accepted (bytesOf 1 msgType ++ t))
+behind-three : (msgType : ℕ) (b : Answer (List ℕ))
+    → messageText (headText msgType) b ≡ then (then b (λ p. fieldText (sized 3) p))
+    (λ t. accepted (bytesOf 1 msgType ++ t))
 behind-three msgType (accepted p) = same-text msgType (accepted p)
 behind-three msgType (refused r) = same-text msgType (refused r)
 
--- the part p of s that v names, behind its length: a message with a body of n bytes, and the text that puts it in
+-- the part p of s that v names, behind its length: a message with a body of n bytes, and the text
+-- that puts it in
 pub record SizedMessage (msgType : ℕ) (s : List ℕ) (v : View) (w : ℕ) (p : List ℕ) (n : ℕ) : Type 0 where
   pub message : Message (headText msgType) 4 (sizedText w s v) (fieldBytes (sized w) p) n
   pub by : fieldText (sized w) p ≡ accepted (fieldBytes (sized w) p)
@@ -55,21 +59,31 @@ module _ (s : List ℕ) (v : View) where
   sized-not w e = not-field w (liesIn s v) (partOf s v) e
 
   -- a part that may not be written
-  pub sized-refused : (w msgType : ℕ) (d : List ℕ) {t : Bool} {r : Refusal} → t ≡ mayStand (sized w) asView s v → not t ≡ true → r ≡ unplaced BadLength → Came (messageText (headText msgType) (sizedText w s v)) 0 d (refused r) d
-  sized-refused w msgType d {t} m n q = message-refused (headText msgType) d (sized-not w (sym m ∙ not-true t n) ∙ ap refused (sym q))
+  pub sized-refused : (w msgType : ℕ) (d : List ℕ) {t : Bool} {r : Refusal} → t ≡ mayStand (sized w) asView s v
+      → not t ≡ true → r ≡ unplaced BadLength
+      → Came (messageText (headText msgType) (sizedText w s v)) 0 d (refused r) d
+  sized-refused w msgType d {t} m n q =
+      message-refused (headText msgType) d (sized-not w (sym m ∙ not-true t n) ∙ ap refused (sym q))
 
-  pub view-refused : (msgType : ℕ) (d : List ℕ) {t : Bool} {r : Refusal} → t ≡ mayStand (sized 3) asView s v → not t ≡ true → r ≡ unplaced BadLength → Came (messageText (headText msgType) (viewText s v)) 0 d (refused r) d
+  pub view-refused : (msgType : ℕ) (d : List ℕ) {t : Bool} {r : Refusal} → t ≡ mayStand (sized 3) asView s v
+      → not t ≡ true → r ≡ unplaced BadLength → Came (messageText (headText msgType) (viewText s v)) 0 d (refused r) d
   unfolding sizedText
-  view-refused msgType d {t} m n q = text-refused 0 d (behind-three msgType (viewText s v) ∙ ap (λ (x : Answer (List ℕ)). then x (λ b. accepted (bytesOf 1 msgType ++ b))) (sized-not 3 (sym m ∙ not-true t n) ∙ ap refused (sym q)))
+  view-refused msgType d {t} m n q =
+      text-refused 0 d (behind-three msgType (viewText s v)
+      ∙ ap (λ (x : Answer (List ℕ)). then x (λ b. accepted (bytesOf 1 msgType ++ b)))
+      (sized-not 3 (sym m ∙ not-true t n) ∙ ap refused (sym q)))
 
   -- a part that may
-  module _ (w : ℕ) {t : Bool} (m : t ≡ mayStand (sized w) asView s v) (n : not t ≡ false) (p : List ℕ) (q : p ≡ partOf s v) where
+  module _ (w : ℕ) {t : Bool} (m : t ≡ mayStand (sized w) asView s v) (n : not t ≡ false) (p : List ℕ)
+      (q : p ≡ partOf s v) where
     may : mayStand (sized w) asView s v ≡ true
     may = sym m ∙ not-false t n
 
     view-is : viewText s v ≡ accepted p
     unfolding viewText
-    view-is = rw q (ap (λ (t : Bool). pick t (accepted (partOf s v)) (refused (unplaced BadLength))) (both-true (liesIn s v) _ may .0))
+    view-is =
+        rw q (ap (λ (t : Bool). pick t (accepted (partOf s v)) (refused (unplaced BadLength)))
+        (both-true (liesIn s v) _ may .0))
 
     stands : allowed (sized w) (length p) ≡ true
     stands = rw q (both-true (liesIn s v) _ may .1)
@@ -84,5 +98,6 @@ module _ (s : List ℕ) (v : View) where
         let m : k + length p < 16777216 = omega (arith, below, pow-le-pow-right {n = 256} (omega arith) h) in
         record { message = short-head msgType (rw view-is t) (rw g (sym (length-vector w (ruleOf Plain) p))) m; by = t }
 
-  pub view-message : (msgType : ℕ) {t : Bool} → t ≡ mayStand (sized 3) asView s v → not t ≡ false → (p : List ℕ) → p ≡ partOf s v → Message (headText msgType) 4 (viewText s v) p (length p)
+  pub view-message : (msgType : ℕ) {t : Bool} → t ≡ mayStand (sized 3) asView s v → not t ≡ false → (p : List ℕ)
+      → p ≡ partOf s v → Message (headText msgType) 4 (viewText s v) p (length p)
   view-message msgType m n p q = short-head msgType (view-is 3 m n p q) refl (below 3 m n p q)

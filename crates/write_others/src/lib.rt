@@ -1,8 +1,10 @@
-// The messages whose body is one part, or none: ClientKeyExchange, Finished, HelloRequest (RFC 5246 7.4.7, 7.4.9, 7.4.1.1).
+// The messages whose body is one part, or none: ClientKeyExchange, Finished, HelloRequest (RFC 5246
+// 7.4.7, 7.4.9, 7.4.1.1).
 ghost use mathlib.Core.List.{[]};
 ghost use mathlib.Core.Path.{_≡_};
 ghost use Prim.Native.Nat.{_≤_};
 ghost use Rattle.refusal.specs.Answers.{Answer};
+ghost use Rattle.registry.specs.Types.{helloRequestType, clientKeyExchangeType, finishedType};
 ghost use Rattle.wire.specs.Numbers.{bytesIn};
 ghost use Rattle.wire.specs.Puts.{room, written, writeSays};
 ghost use Rattle.write_rules.specs.MessageTexts.{headText, messageText, sizedText, viewText};
@@ -55,34 +57,51 @@ fn gen_sized(msg_type: u8, w: Width, v: View, i: &[u8], out: &mut [u8]) -> Write
     }
 }
 
-// BadLength, then NoRoom. A refusal changes no byte.
+// Writes a ClientKeyExchange: BadLength, then NoRoom. A refusal changes no byte.
 pub fn gen_tls_clientkeyexchange(
     m: TlsClientKeyExchangeContents,
     i: &[u8],
     out: &mut [u8],
 ) -> WriteAnswer
-    ensures { λ r. ⌜ writeSays r ≡ room (messageText (headText 0x10) (exchangeText (now (i .entry)) m)) 0 (now (out .entry)) ⌝ }
-    ensures { λ _. ⌜ now (out .exit) ≡ written (messageText (headText 0x10) (exchangeText (now (i .entry)) m)) 0 (now (out .entry)) ⌝ }
+    ensures { λ r. ⌜ writeSays r ≡ room (messageText (headText clientKeyExchangeType) (exchangeText (now (i .entry)) m)) 0 (now (out .entry)) ⌝ }
+    ensures { λ _. ⌜ now (out .exit) ≡ written (messageText (headText clientKeyExchangeType) (exchangeText (now (i .entry)) m)) 0 (now (out .entry)) ⌝ }
 {
     match m {
-        TlsClientKeyExchangeContents::Unknown(v) => gen_view(0x10, v, i, out),
-        TlsClientKeyExchangeContents::Dh(v) => gen_sized(0x10, Width::Two, v, i, out),
-        TlsClientKeyExchangeContents::Ecdh(v) => gen_sized(0x10, Width::One, v, i, out),
+        TlsClientKeyExchangeContents::Unknown(v) => gen_view(
+            registry::handshake::CLIENT_KEY_EXCHANGE,
+            v,
+            i,
+            out,
+        ),
+        TlsClientKeyExchangeContents::Dh(v) => gen_sized(
+            registry::handshake::CLIENT_KEY_EXCHANGE,
+            Width::Two,
+            v,
+            i,
+            out,
+        ),
+        TlsClientKeyExchangeContents::Ecdh(v) => gen_sized(
+            registry::handshake::CLIENT_KEY_EXCHANGE,
+            Width::One,
+            v,
+            i,
+            out,
+        ),
     }
 }
 
-// Four bytes, or NoRoom. A refusal changes no byte.
+// Writes a HelloRequest, four bytes, or answers NoRoom. A refusal changes no byte.
 pub fn gen_tls_hellorequest(out: &mut [u8]) -> WriteAnswer
-    ensures { λ r. ⌜ writeSays r ≡ room (messageText (headText 0x00) (Answer.accepted [])) 0 (now (out .entry)) ⌝ }
-    ensures { λ _. ⌜ now (out .exit) ≡ written (messageText (headText 0x00) (Answer.accepted [])) 0 (now (out .entry)) ⌝ }
+    ensures { λ r. ⌜ writeSays r ≡ room (messageText (headText helloRequestType) (Answer.accepted [])) 0 (now (out .entry)) ⌝ }
+    ensures { λ _. ⌜ now (out .exit) ≡ written (messageText (headText helloRequestType) (Answer.accepted [])) 0 (now (out .entry)) ⌝ }
 {
-    write_rules::gen_head(out, 0x00, 0)
+    write_rules::gen_head(out, registry::handshake::HELLO_REQUEST, 0)
 }
 
-// BadLength, then NoRoom. A refusal changes no byte.
+// Writes a Finished: BadLength, then NoRoom. A refusal changes no byte.
 pub fn gen_tls_finished(m: View, i: &[u8], out: &mut [u8]) -> WriteAnswer
-    ensures { λ r. ⌜ writeSays r ≡ room (messageText (headText 0x14) (viewText (now (i .entry)) m)) 0 (now (out .entry)) ⌝ }
-    ensures { λ _. ⌜ now (out .exit) ≡ written (messageText (headText 0x14) (viewText (now (i .entry)) m)) 0 (now (out .entry)) ⌝ }
+    ensures { λ r. ⌜ writeSays r ≡ room (messageText (headText finishedType) (viewText (now (i .entry)) m)) 0 (now (out .entry)) ⌝ }
+    ensures { λ _. ⌜ now (out .exit) ≡ written (messageText (headText finishedType) (viewText (now (i .entry)) m)) 0 (now (out .entry)) ⌝ }
 {
-    gen_view(0x14, m, i, out)
+    gen_view(registry::handshake::FINISHED, m, i, out)
 }

@@ -1,5 +1,5 @@
--- A record written: a content that may not stand in one, no room, and type, version and content put in one behind the other. Assumes
--- nothing.
+-- A record written: a content that may not stand in one, no room, and type, version and content put
+-- in one behind the other. Assumes nothing.
 use Prim.Native.Nat.{ℕ, _+_, _<_}
 use mathlib.Core.Path.{_≡_, sym, _∙_}
 use mathlib.Core.List.{List, _++_, append-nil}
@@ -45,12 +45,16 @@ module _ (hdr : TlsRecordHeader) (p d : List ℕ) where
     pub record-out : {r : Refusal} → roomAt d 0 (5 + length p) ≡ refused r → Came (recordText hdr p) 0 d (refused r) d
     record-out {r} q = text-out (whole hdr p) 0 d {r = r} record-is (rw length-whole q)
 
-    pub record-in : {x : Part} (o o′ o″ : List ℕ) → hdr .«record_type» < 256 → hdr .version < 65536 → roomAt d 0 (5 + length p) ≡ accepted x
-        → o ≡ written (numberText 1 (hdr .«record_type»)) 0 d → o′ ≡ written (numberText 2 (hdr .version)) 1 o → o″ ≡ written (fieldText fragment p) 3 o′
+    pub record-in : {x : Part} (o o′ o″ : List ℕ) → hdr .«record_type» < 256 → hdr .version < 65536
+        → roomAt d 0 (5 + length p) ≡ accepted x
+        → o ≡ written (numberText 1 (hdr .«record_type»)) 0 d → o′ ≡ written (numberText 2 (hdr .version)) 1 o
+        → o″ ≡ written (fieldText fragment p) 3 o′
         → Came (recordText hdr p) 0 d (accepted (x .next)) o″
     record-in {x} o o′ o″ t v q e₁ e₂ e₃ =
         let a = begin d (whole hdr p) (omega (arith, length-whole, room-fits d 0 (5 + length p) q .inside)) in
-        let b = next (bytesOf 1 (hdr .«record_type»)) (bytesOf 2 (hdr .version) ++ fieldBytes fragment p) a (number-accepted 1 _ t) o 1 e₁ (omega (arith, length-bytes 1 (hdr .«record_type»))) in
-        let g = next (bytesOf 2 (hdr .version)) (fieldBytes fragment p) b (number-accepted 2 _ v) o′ 3 e₂ (omega (arith, length-bytes 2 (hdr .version))) in
+        let b = next (bytesOf 1 (hdr .«record_type»)) (bytesOf 2 (hdr .version) ++ fieldBytes fragment p) a
+        (number-accepted 1 _ t) o 1 e₁ (omega (arith, length-bytes 1 (hdr .«record_type»))) in
+        let g = next (bytesOf 2 (hdr .version)) (fieldBytes fragment p) b (number-accepted 2 _ v) o′ 3 e₂
+        (omega (arith, length-bytes 2 (hdr .version))) in
         let c = text-in (whole hdr p) 0 d {p = x} record-is (rw length-whole q) in
         record { says = c .says; leaves = c .leaves ∙ sym (end g (text-may fragment p e) o″ e₃) }

@@ -1,5 +1,5 @@
--- A record written: document 01, "The record writer refuses more than 16,640 bytes as TooLarge; it writes an empty one. It copies the type,
--- the version and the lent bytes, and does not open them." The bytes are the fields by which a raw record is read, joined; RFC 5246 6.2.1.
+-- A record written: RULES 7.10, 7.11; RFC 5246 6.2.1. The bytes are the fields by which a raw
+-- record is read, joined.
 use Rattle.refusal.specs.{ℕ, List, length, unplaced, Answer, accepted, refused, TooLarge}
 use Rattle.wire.specs.{pick, bytesOf}
 use Rattle.field.specs.{allowed}

@@ -9,8 +9,8 @@ use wire::number::Width;
 use wire::output::WriteAnswer;
 use wire::view::PartAnswer;
 
-// Writes type and version of `hdr`, the length of `msg` and its bytes, which are not opened: TooLarge, then NoRoom. A refusal changes no
-// byte.
+// Writes type and version of `hdr`, the length of `msg` and its bytes, which are not opened:
+// TooLarge, then NoRoom. A refusal changes no byte.
 pub fn gen_tls_plaintext(hdr: TlsRecordHeader, msg: &[u8], out: &mut [u8]) -> WriteAnswer
     ensures { λ r. ⌜ writeSays r ≡ room (recordText hdr (now (msg .entry))) 0 (now (out .entry)) ⌝ }
     ensures { λ _. ⌜ now (out .exit) ≡ written (recordText hdr (now (msg .entry))) 0 (now (out .entry)) ⌝ }

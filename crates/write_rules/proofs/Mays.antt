@@ -1,5 +1,6 @@
--- Whether a hello may be written, part by part: what is left to be asked once the parts so far may stand. A proof adds one `and` for each
--- part, answers each early return by one `stop`, and the last answer by `end`. Assumes nothing.
+-- Whether a hello may be written, part by part: what is left to be asked once the parts so far may
+-- stand. A proof adds one `and` for each part, answers each early return by one `stop`, and the
+-- last answer by `end`. Assumes nothing.
 use Prim.Native.Nat.{ℕ}
 use mathlib.Core.Path.{_≡_, refl, ap, sym, _∙_}
 use mathlib.Core.List.{List, [], _∷_}
@@ -31,11 +32,13 @@ number : (a b z : Bool) (bs : List Bool) → b ≡ all bs z → (a && b) ≡ all
 number true b z bs e = e
 number false b z bs e = refl
 
-parts-all : (rs : List Row) (s : List ℕ) (os : Outs rs) (z : Bool) → gather (λ (f, m) o rest. mayStand f m s o && rest) z rs os ≡ all (parts rs s os) z
+parts-all : (rs : List Row) (s : List ℕ) (os : Outs rs) (z : Bool)
+    → gather (λ (f, m) o rest. mayStand f m s o && rest) z rs os ≡ all (parts rs s os) z
 parts-all [] s os z = refl
 parts-all ((f, asView) ∷ rs) s (o, os) z = ap (_&&_ (mayStand f asView s o)) (parts-all rs s os z)
 parts-all ((f, asOpt empty) ∷ rs) s (o, os) z = ap (_&&_ (mayStand f (asOpt empty) s o)) (parts-all rs s os z)
-parts-all ((f, asNumber w) ∷ rs) s (o, os) z = rw (length-bytes w o) (number (allowed f w) _ z (parts rs s os) (parts-all rs s os z))
+parts-all ((f, asNumber w) ∷ rs) s (o, os) z =
+    rw (length-bytes w o) (number (allowed f w) _ z (parts rs s os) (parts-all rs s os z))
 
 -- what is left to be asked decides
 pub record Left (may : Bool) (bs : List Bool) (z : Bool) : Type 0 where
@@ -43,11 +46,14 @@ pub record Left (may : Bool) (bs : List Bool) (z : Bool) : Type 0 where
 
 -- n parts may stand
 abbrev pub Past : {C : Type 0} → ℕ → Form C → List ℕ → C → Type 0
-Past n k s c = Left (mayWrite k s c) (drop n (parts (k .grammar .rows) s (k .handed c))) (mayStand extensions (asOpt false) s (k .block c))
+Past n k s c =
+    Left (mayWrite k s c) (drop n (parts (k .grammar .rows) s (k .handed c)))
+    (mayStand extensions (asOpt false) s (k .block c))
 
 pub begin : {C : Type 0} (k : Form C) (s : List ℕ) (c : C) → Past 0 k s c
 unfolding mayWrite
-begin k s c = record { is = parts-all (k .grammar .rows) s (k .handed c) (mayStand extensions (asOpt false) s (k .block c)) }
+begin k s c =
+    record { is = parts-all (k .grammar .rows) s (k .handed c) (mayStand extensions (asOpt false) s (k .block c)) }
 
 module _ {may b : Bool} {bs : List Bool} {z : Bool} (l : Left may (b ∷ bs) z) {t : Bool} (e : t ≡ b) where
   -- one part more

@@ -1,13 +1,14 @@
--- What is written of a hello: document 01, "What may be written". A text is the finished bytes, or the refusal to write any. The bytes are
--- the fields by which the hello is read, joined in order, and then the extensions: "absent extensions write 00 00". Its limits (random
--- exactly 32, id at most 32, ciphers even and at most 65,534, methods at most 255, extensions at most 65,535) are the rules of the fields,
--- `grammar/specs/Hellos.antt`.
+-- What is written of a hello: RULES 7.2, 7.3, 7.6; RFC 5246 7.4.1.2, 7.4.1.3. A text is the
+-- finished bytes, or the refusal to write any. The bytes are the fields by which the hello is read,
+-- joined in order, and then the extensions, 00 00 where they are absent. The limits of RULES 7.2
+-- are the rules of the fields, `grammar/specs/Hellos.antt`.
 use Rattle.refusal.specs.{ℕ, List, _++_, Bool, _&&_, true, false, length, unplaced, Answer, accepted, refused, BadLength}
 use Rattle.wire.specs.{pick, optPartOf, Absent, Present, liesIn}
 use Rattle.field.specs.{Field, fieldBytes, allowed}
 use Rattle.grammar.specs.{How, asView, asOpt, asNumber, gather, extensions, Form, Out, named}
 
--- what was handed out of a field lies within the bytes lent with the value; in writing it is all one what `asOpt` makes of an empty part
+-- what was handed out of a field lies within the bytes lent with the value; in writing it is all
+-- one what `asOpt` makes of an empty part
 abbrev pub lies : (m : How) → List ℕ → Out m → Bool
 lies asView s v = liesIn s v
 lies (asOpt empty) s Absent = true

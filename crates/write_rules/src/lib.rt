@@ -59,7 +59,8 @@ pub fn opt_part_may(i: &[u8], v: OptView, w: Width, rule: RuleName) -> bool
     }
 }
 
-// Writes type and length of a message, to stand before a body of `n` bytes: BadLength, then NoRoom. A refusal changes no byte.
+// Writes type and length of a message, to stand before a body of `n` bytes: BadLength, then NoRoom.
+// A refusal changes no byte.
 pub fn gen_head(out: &mut [u8], msg_type: u8, n: usize) -> WriteAnswer
     ensures { λ r. ⌜ writeSays r ≡ room (headText «msg_type» n) 0 (now (out .entry)) ⌝ }
     ensures { λ _. ⌜ now (out .exit) ≡ written (headText «msg_type» n) 0 (now (out .entry)) ⌝ }

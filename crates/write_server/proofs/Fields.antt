@@ -1,4 +1,5 @@
--- The fields of a ServerHello, written one behind the other into a buffer with room for them, are its text. Assumes nothing.
+-- The fields of a ServerHello, written one behind the other into a buffer with room for them, are
+-- its text. Assumes nothing.
 use Prim.Native.Nat.{ℕ, _+_, _<_, _≤_}
 use mathlib.Core.Path.{_≡_, refl}
 use mathlib.Core.Bool.{true}
@@ -17,7 +18,8 @@ use Rattle.write_rules.specs.HelloTexts.{helloBytes}
 use Rattle.write_rules.proofs.Hellos.{Obeyed}
 use Rattle.write_rules.proofs.Fields.{begin, and, number, part, close}
 
-pub server-put : (d s : List ℕ) (m : TlsServerHelloContents) (o₁ o₂ o₃ o₄ o₅ o₆ : List ℕ) (n : ℕ) → Obeyed (server true) s m → length (helloBytes (server true) s m) ≤ length d
+pub server-put : (d s : List ℕ) (m : TlsServerHelloContents) (o₁ o₂ o₃ o₄ o₅ o₆ : List ℕ) (n : ℕ)
+    → Obeyed (server true) s m → length (helloBytes (server true) s m) ≤ length d
     → m .version < 65536 → m .cipher < 65536 → m .compression < 256
     → o₁ ≡ written (numberText 2 (m .version)) 0 d
     → o₂ ≡ written (accepted (partOf s (m .random))) 2 o₁
@@ -31,7 +33,8 @@ server-put d s m o₁ o₂ o₃ o₄ o₅ o₆ n h f v c k e₁ e₂ e₃ x e₄
     let p = h .fields in
     let a = begin d (helloBytes (server true) s m) f in
     let a₁ = number 2 _ 2 (m .version) a v e₁ (omega arith) in
-    let a₂ = and 34 _ (random .0) (partOf s (m .random)) a₁ {t = accepted (partOf s (m .random))} refl e₂ (omega (arith, p .1 .0)) in
+    let a₂ = and 34 _ (random .0) (partOf s (m .random)) a₁ {t = accepted (partOf s (m .random))} refl e₂
+    (omega (arith, p .1 .0)) in
     let a₃ = part n _ _ _ (optPartOf s (m .«session_id»)) a₂ (p .1 .1 .0) e₃ (omega arith) in
     let a₄ = number (n + 2) _ 2 (m .cipher) a₃ c e₄ (omega arith) in
     let a₅ = number (n + 3) _ 1 (m .compression) a₄ k e₅ (omega arith) in

@@ -1,4 +1,5 @@
--- How long a ServerHello that may be written is, and the most that its parts can be. Assumes nothing.
+-- How long a ServerHello that may be written is, and the most that its parts can be. Assumes
+-- nothing.
 use Prim.Native.Nat.{ℕ, _+_, _≤_}
 use mathlib.Core.Path.{_≡_}
 use mathlib.Core.List.{List}
@@ -15,7 +16,8 @@ use Rattle.write_rules.specs.HelloTexts.{helloBytes}
 use Rattle.write_rules.proofs.Hellos.{Obeyed}
 
 pub server-length : (s : List ℕ) (m : TlsServerHelloContents) → Obeyed (server true) s m
-    → length (helloBytes (server true) s m) ≡ 40 + length (optPartOf s (m .«session_id»)) + length (optPartOf s (m .ext))
+    → length (helloBytes (server true) s m) ≡ 40 + length (optPartOf s (m .«session_id»)) + length
+    (optPartOf s (m .ext))
 unfolding helloBytes
 server-length s m h = simp (length-append, length-bytes, h .fields .1 .0) (omega arith)
 
@@ -24,4 +26,5 @@ pub record ServerBounds (s : List ℕ) (m : TlsServerHelloContents) : Type 0 whe
   pub ext : length (optPartOf s (m .ext)) ≤ 65535
 
 pub server-bounds : (s : List ℕ) (m : TlsServerHelloContents) → Obeyed (server true) s m → ServerBounds s m
-server-bounds s m h = record { id = leb-true _ _ (unless-none _ _ (h .fields .1 .1 .0 .1)); ext = omega (arith, h .last .0) }
+server-bounds s m h =
+    record { id = leb-true _ _ (unless-none _ _ (h .fields .1 .1 .0 .1)); ext = omega (arith, h .last .0) }

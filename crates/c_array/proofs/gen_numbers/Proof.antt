@@ -1,4 +1,5 @@
--- `c_array::gen_numbers` meets its contract: there is no room, by either test, or the numbers are put in. Assumes nothing.
+-- `c_array::gen_numbers` meets its contract: there is no room, by either test, or the numbers are
+-- put in. Assumes nothing.
 use Prim.Native.Nat.{ℕ}
 use mathlib.Core.Path.{_≡_, ap, _∙_}
 use native.Mathlib.Omega.{arith}

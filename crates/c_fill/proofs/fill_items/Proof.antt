@@ -1,4 +1,5 @@
--- `c_fill::fill_items` meets its contract: what is still to be told are the items from the place reached. Assumes nothing.
+-- `c_fill::fill_items` meets its contract: what is still to be told are the items from the place
+-- reached. Assumes nothing.
 use Prim.Native.Nat.{_-_}
 use mathlib.Core.List.{[], _∷_}
 use native.Mathlib.Omega.{arith}
@@ -11,12 +12,14 @@ use Rattle.wire.specs.declared.view.Part.{Part}
 use Rattle.wire.proofs.Numbers.{width-bounds}
 use Rattle.field.specs.Fields.{step, sized}
 use Rattle.list.proofs.Fields.{by-steps, item-got, item-none}
-use Rattle.c_fill.proofs.Blocks.{Reached, begun, found, ended, filled, tell}
+use Rattle.c_fill.proofs.Batches.{Reached, begun, found, ended, filled, tell}
 use Rattle.c_fill.proofs.fill_items.Statement.{statement}
 use Rattle.c_fill.proofs.fill_items.Tie as tie
 
 abbrev Inv-loop : tie.InvT-loop
-Inv-loop s w from out₀ at₀ told₀ out at told = Reached (step (sized (bytesIn w)) s) (λ (p : Part). p .next) (length s) 2 (λ (p : Part). p .view .start ∷ p .view .len ∷ []) from out₀ out at told
+Inv-loop s w from out₀ at₀ told₀ out at told =
+    Reached (step (sized (bytesIn w)) s) (λ (p : Part). p .next) (length s) 2
+    (λ (p : Part). p .view .start ∷ p .view .len ∷ []) from out₀ out at told
 
 abbrev μ-loop : tie.MeasureT-loop
 μ-loop s w from out₀ at₀ told₀ out at told = length out₀ - told
@@ -70,7 +73,8 @@ loop-again : tie.Need-loop-again Inv-loop μ-loop
 loop-again c =
     let l = c .before .before .before .before .before in
     let e = item-got _ _ _ (case partSays (c .before .before .before .item-from .ensures) (c .before .p .given .1)) in
-    let t = found (by-steps _ (width-bounds (l .before .before .before .args .w) .0) _) (l .loop .inv) e (omega arith) (omega arith) in
+    let t = found (by-steps _ (width-bounds (l .before .before .before .args .w) .0) _) (l .loop .inv) e (omega arith)
+    (omega arith) in
     record { telling = tell (tell t (omega arith) (omega arith)) (omega arith) (omega arith) }
 
 same-length-2 : tie.Need-same-length-2 Inv-loop μ-loop

@@ -1,4 +1,5 @@
--- `c_fill::fill_messages` meets its contract: what is still to be told are the messages from the place reached. Assumes nothing.
+-- `c_fill::fill_messages` meets its contract: what is still to be told are the messages from the
+-- place reached. Assumes nothing.
 use Prim.Native.Nat.{_-_}
 use mathlib.Core.Path.{_≡_}
 use mathlib.Core.List.{[], _∷_}
@@ -12,12 +13,14 @@ use Rattle.refusal.proofs.Then.{then-accepted}
 use Rattle.envelope.specs.Opening.{Met, metAt, headSays}
 use Rattle.record_walk.specs.Walks.{metHead}
 use Rattle.record_walk.proofs.Walking.{behind, by-messages, head-not-met}
-use Rattle.c_fill.proofs.Blocks.{Reached, begun, found, ended, filled, tell}
+use Rattle.c_fill.proofs.Batches.{Reached, begun, found, ended, filled, tell}
 use Rattle.c_fill.proofs.fill_messages.Statement.{statement}
 use Rattle.c_fill.proofs.fill_messages.Tie as tie
 
 abbrev Inv-loop : tie.InvT-loop
-Inv-loop s from out₀ at₀ told₀ out at told = Reached (metAt s) behind (length s) 3 (λ (x : Met). x .head .«msg_type» ∷ x .head .body .start ∷ x .head .body .len ∷ []) from out₀ out at told
+Inv-loop s from out₀ at₀ told₀ out at told =
+    Reached (metAt s) behind (length s) 3
+    (λ (x : Met). x .head .«msg_type» ∷ x .head .body .start ∷ x .head .body .len ∷ []) from out₀ out at told
 
 abbrev μ-loop : tie.MeasureT-loop
 μ-loop s from out₀ at₀ told₀ out at told = length out₀ - told
@@ -40,7 +43,8 @@ same-length c = search needs
 returns : tie.Need-returns Inv-loop μ-loop
 returns c =
     let l = c .before .before .before .before in
-    ended (by-messages _) (l .loop .inv) (head-not-met _ _ (case headSays (c .before .before .meet-tls-message .ensures) (c .enum-told .given .1)))
+    ended (by-messages _) (l .loop .inv)
+    (head-not-met _ _ (case headSays (c .before .before .meet-tls-message .ensures) (c .enum-told .given .1)))
 
 enum-known-h : tie.Need-enum-known-h Inv-loop μ-loop
 enum-known-h c = search needs
@@ -81,12 +85,18 @@ loop-less c = search needs
 loop-again : tie.Need-loop-again Inv-loop μ-loop
 unfolding metHead
 loop-again c =
-    let l = c .before .before .before .before .before .before in
+    let early = c .before .before .before .before .before .before in
+    let l = early in
     let s = now (l .before .before .before .args .s) in
-    let e = then-accepted (metAt s (l .loop .at)) (λ (x : Met). accepted (x .head)) (case headSays (c .before .before .before .before .meet-tls-message .ensures) (c .before .before .h .given .1)) in
+    let e = then-accepted (metAt s (l .loop .at)) (λ (x : Met). accepted (x .head))
+    (case headSays (c .before .before .before .before .meet-tls-message .ensures)
+    (c .before .before .h .given .1)) in
     let h : e .0 .head ≡ c .before .before .h .given .0 .0 = cc (e .2) in
     let t = rw h at (found (by-messages s) (l .loop .inv) (e .1) (omega arith) (omega arith)) in
-    record { telling = tell (tell (tell t (omega arith) (omega arith)) (omega arith) (omega arith)) (omega arith) (omega arith) }
+    record {
+      telling = tell (tell (tell t (omega arith) (omega arith)) (omega arith) (omega arith)) (omega arith)
+          (omega arith);
+    }
 
 same-length-2 : tie.Need-same-length-2 Inv-loop μ-loop
 same-length-2 c = search needs

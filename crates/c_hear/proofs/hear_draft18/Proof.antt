@@ -1,9 +1,11 @@
 -- `c_hear::hear_draft18` meets its contract. Assumes nothing.
+use mathlib.Core.Path.{sym, _∙_}
 use native.Mathlib.Omega.{arith}
 use borrow.Author.Tests.{le-leb, lt-leb, lt-ltb, le-ltb}
 use lib.ListN.{length}
 use denote.Ref.{now}
 use Rattle.c_hear.specs.Heard.{nth, ifFit, heardAs}
+use Rattle.c_hear.proofs.Unfit.{draft18-short, draft18-version, draft18-cipher}
 use borrow.Author.Needs.{needs}
 use Rattle.c_hear.proofs.hear_draft18.Statement.{statement}
 use Rattle.c_hear.proofs.hear_draft18.Tie as tie
@@ -12,10 +14,7 @@ bad-numbers-requires : tie.Need-bad-numbers-requires
 bad-numbers-requires c κs = search needs
 
 returns : tie.Need-returns
-unfolding heardAs ifFit
-returns c =
-    let m = now (c .before .before .before .args .m) in
-    rw (lt-leb 9 (length m) (omega arith)) (c .bad-numbers .ensures)
+returns c = c .bad-numbers .ensures ∙ sym (draft18-short (now (c .before .before .before .args .m)) (omega arith))
 
 shared-slice-read-version : tie.Need-shared-slice-read-version
 shared-slice-read-version c = search needs
@@ -27,19 +26,17 @@ bad-numbers-requires-2 : tie.Need-bad-numbers-requires-2
 bad-numbers-requires-2 c κs = search needs
 
 returns-2 : tie.Need-returns-2
-unfolding heardAs ifFit
 returns-2 c =
     let m = now (c .before .before .before .before .before .before .args .m) in
-    rw (le-leb 9 (length m) (omega arith), le-ltb (nth m 1) 0x10000 (omega arith)) (c .bad-numbers2 .ensures)
+    c .bad-numbers2 .ensures ∙ sym (draft18-version m (omega arith) (omega arith))
 
 bad-numbers-requires-3 : tie.Need-bad-numbers-requires-3
 bad-numbers-requires-3 c κs = search needs
 
 returns-3 : tie.Need-returns-3
-unfolding heardAs ifFit
 returns-3 c =
     let m = now (c .before .before .before .before .before .before .before .args .m) in
-    rw (le-leb 9 (length m) (omega arith), lt-ltb (nth m 1) 0x10000 (omega arith), le-ltb (nth m 4) 0x10000 (omega arith)) (c .bad-numbers3 .ensures)
+    c .bad-numbers3 .ensures ∙ sym (draft18-cipher m (omega arith) (omega arith) (omega arith))
 
 shared-slice-read-opt-view : tie.Need-shared-slice-read-opt-view
 shared-slice-read-opt-view c = search needs
@@ -71,8 +68,11 @@ shared-slice-read-t6 c = search needs
 returns-4 : tie.Need-returns-4
 unfolding heardAs ifFit
 returns-4 c =
-    let m = now (c .before .before .before .before .before .before .before .before .before .before .before .before .before .args .m) in
-    rw (le-leb 9 (length m) (omega arith), lt-ltb (nth m 1) 0x10000 (omega arith), lt-ltb (nth m 4) 0x10000 (omega arith), c .before .opt-view .ensures)
+    let later = c .before .before .before .before .before .before .before .before .before .before in
+    let early = later .before .before .before in
+    let m = now (early .args .m) in
+    rw (le-leb 9 (length m) (omega arith), lt-ltb (nth m 1) 0x10000 (omega arith))
+    (rw (lt-ltb (nth m 4) 0x10000 (omega arith), c .before .opt-view .ensures))
 
 pub hear-draft18-spec : {M : Type 1} → statement M
 hear-draft18-spec =

@@ -58,9 +58,11 @@ returns-4 c =
 returns-5 : tie.Need-returns-5
 unfolding heardAs ifFit
 returns-5 c =
-    let m = now (c .before .before .before .before .before .before .before .args .m) in
+    let early = c .before .before .before .before .before .before .before in
+    let m = now (early .args .m) in
     let r = c .before .match .rest in
-    rw (le-leb 4 (length m) (omega arith), ne-eqb (nth m 1) 0 (r .0 .0 .1), ne-eqb (nth m 1) 1 (r .0 .1), ne-eqb (nth m 1) 2 (r .1)) (c .bad-numbers2 .ensures)
+    rw (le-leb 4 (length m) (omega arith), ne-eqb (nth m 1) 0 (r .0 .0 .1))
+    (rw (ne-eqb (nth m 1) 1 (r .0 .1), ne-eqb (nth m 1) 2 (r .1)) (c .bad-numbers2 .ensures))
 
 pub hear-exchange-spec : {M : Type 1} → statement M
 hear-exchange-spec =

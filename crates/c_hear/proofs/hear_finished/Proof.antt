@@ -1,9 +1,11 @@
 -- `c_hear::hear_finished` meets its contract. Assumes nothing.
+use mathlib.Core.Path.{sym, _∙_}
 use native.Mathlib.Omega.{arith}
 use borrow.Author.Tests.{le-leb, lt-leb}
 use lib.ListN.{length}
 use denote.Ref.{now}
 use Rattle.c_hear.specs.Heard.{ifFit, heardAs}
+use Rattle.c_hear.proofs.Unfit.{finished-short}
 use borrow.Author.Needs.{needs}
 use Rattle.c_hear.proofs.hear_finished.Statement.{statement}
 use Rattle.c_hear.proofs.hear_finished.Tie as tie
@@ -12,10 +14,7 @@ bad-numbers-requires : tie.Need-bad-numbers-requires
 bad-numbers-requires c κs = search needs
 
 returns : tie.Need-returns
-unfolding heardAs ifFit
-returns c =
-    let m = now (c .before .before .before .args .m) in
-    rw (lt-leb 3 (length m) (omega arith)) (c .bad-numbers .ensures)
+returns c = c .bad-numbers .ensures ∙ sym (finished-short (now (c .before .before .before .args .m)) (omega arith))
 
 shared-slice-read-t3 : tie.Need-shared-slice-read-t3
 shared-slice-read-t3 c = search needs

@@ -17,8 +17,8 @@ returns c =
     let m = now (c .before .before .before .args .m) in
     rw (lt-leb 1 (length m) (omega arith)) (c .bad-numbers .ensures)
 
-shared-slice-read-kind : tie.Need-shared-slice-read-kind
-shared-slice-read-kind c = search needs
+shared-slice-read-number : tie.Need-shared-slice-read-number
+shared-slice-read-number c = search needs
 
 hear-client-requires : tie.Need-hear-client-requires
 hear-client-requires c κs = search needs
@@ -79,7 +79,16 @@ unfolding heard heardAs
 returns-8 c =
     let m = now (c .before .before .before .before .before .args .m) in
     let r = c .before .match .rest in
-    rw (le-leb 1 (length m) (omega arith), ne-eqb (nth m 0) 0 (r .0 .0 .0 .0 .0 .1), ne-eqb (nth m 0) 1 (r .0 .0 .0 .0 .1), ne-eqb (nth m 0) 2 (r .0 .0 .0 .1), ne-eqb (nth m 0) 16 (r .0 .0 .1), ne-eqb (nth m 0) 20 (r .0 .1), ne-eqb (nth m 0) 0x7f12 (r .1), c .unplaced .ensures)
+    rw (
+      le-leb 1 (length m) (omega arith),
+      ne-eqb (nth m 0) 0 (r .0 .0 .0 .0 .0 .1),
+      ne-eqb (nth m 0) 1 (r .0 .0 .0 .0 .1),
+      ne-eqb (nth m 0) 2 (r .0 .0 .0 .1),
+      ne-eqb (nth m 0) 16 (r .0 .0 .1),
+      ne-eqb (nth m 0) 20 (r .0 .1),
+      ne-eqb (nth m 0) 0x7f12 (r .1),
+      c .unplaced .ensures,
+    )
 
 pub hear-message-spec : {M : Type 1} → statement M
 hear-message-spec =
@@ -87,7 +96,7 @@ hear-message-spec =
     (tie.spec
     bad-numbers-requires
     returns
-    shared-slice-read-kind
+    shared-slice-read-number
     hear-client-requires
     hear-server-requires
     hear-exchange-requires

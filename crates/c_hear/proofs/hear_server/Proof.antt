@@ -1,9 +1,11 @@
 -- `c_hear::hear_server` meets its contract. Assumes nothing.
+use mathlib.Core.Path.{sym, _∙_}
 use native.Mathlib.Omega.{arith}
 use borrow.Author.Tests.{le-leb, lt-leb, lt-ltb, le-ltb}
 use lib.ListN.{length}
 use denote.Ref.{now}
 use Rattle.c_hear.specs.Heard.{nth, ifFit, heardAs}
+use Rattle.c_hear.proofs.Unfit.{server-short, server-version, server-cipher, server-method}
 use borrow.Author.Needs.{needs}
 use Rattle.c_hear.proofs.hear_server.Statement.{statement}
 use Rattle.c_hear.proofs.hear_server.Tie as tie
@@ -12,10 +14,7 @@ bad-numbers-requires : tie.Need-bad-numbers-requires
 bad-numbers-requires c κs = search needs
 
 returns : tie.Need-returns
-unfolding heardAs ifFit
-returns c =
-    let m = now (c .before .before .before .args .m) in
-    rw (lt-leb 13 (length m) (omega arith)) (c .bad-numbers .ensures)
+returns c = c .bad-numbers .ensures ∙ sym (server-short (now (c .before .before .before .args .m)) (omega arith))
 
 shared-slice-read-version : tie.Need-shared-slice-read-version
 shared-slice-read-version c = search needs
@@ -30,28 +29,25 @@ bad-numbers-requires-2 : tie.Need-bad-numbers-requires-2
 bad-numbers-requires-2 c κs = search needs
 
 returns-2 : tie.Need-returns-2
-unfolding heardAs ifFit
 returns-2 c =
     let m = now (c .before .before .before .before .before .before .before .args .m) in
-    rw (le-leb 13 (length m) (omega arith), le-ltb (nth m 1) 0x10000 (omega arith)) (c .bad-numbers2 .ensures)
+    c .bad-numbers2 .ensures ∙ sym (server-version m (omega arith) (omega arith))
 
 bad-numbers-requires-3 : tie.Need-bad-numbers-requires-3
 bad-numbers-requires-3 c κs = search needs
 
 returns-3 : tie.Need-returns-3
-unfolding heardAs ifFit
 returns-3 c =
     let m = now (c .before .before .before .before .before .before .before .before .args .m) in
-    rw (le-leb 13 (length m) (omega arith), lt-ltb (nth m 1) 0x10000 (omega arith), le-ltb (nth m 7) 0x10000 (omega arith)) (c .bad-numbers3 .ensures)
+    c .bad-numbers3 .ensures ∙ sym (server-cipher m (omega arith) (omega arith) (omega arith))
 
 bad-numbers-requires-4 : tie.Need-bad-numbers-requires-4
 bad-numbers-requires-4 c κs = search needs
 
 returns-4 : tie.Need-returns-4
-unfolding heardAs ifFit
 returns-4 c =
     let m = now (c .before .before .before .before .before .before .before .before .before .args .m) in
-    rw (le-leb 13 (length m) (omega arith), lt-ltb (nth m 1) 0x10000 (omega arith), lt-ltb (nth m 7) 0x10000 (omega arith), le-ltb (nth m 8) 0x100 (omega arith)) (c .bad-numbers4 .ensures)
+    c .bad-numbers4 .ensures ∙ sym (server-method m (omega arith) (omega arith) (omega arith) (omega arith))
 
 shared-slice-read-opt-view : tie.Need-shared-slice-read-opt-view
 shared-slice-read-opt-view c = search needs
@@ -98,8 +94,12 @@ shared-slice-read-t8 c = search needs
 returns-5 : tie.Need-returns-5
 unfolding heardAs ifFit
 returns-5 c =
-    let m = now (c .before .before .before .before .before .before .before .before .before .before .before .before .before .before .before .before .before .before .before .args .m) in
-    rw (le-leb 13 (length m) (omega arith), lt-ltb (nth m 1) 0x10000 (omega arith), lt-ltb (nth m 7) 0x10000 (omega arith), lt-ltb (nth m 8) 0x100 (omega arith), c .before .before .before .before .before .opt-view .ensures, c .before .opt-view2 .ensures)
+    let later = c .before .before .before .before .before .before .before .before .before .before in
+    let early = later .before .before .before .before .before .before .before .before .before in
+    let m = now (early .args .m) in
+    rw (le-leb 13 (length m) (omega arith), lt-ltb (nth m 1) 0x10000 (omega arith))
+    (rw (lt-ltb (nth m 7) 0x10000 (omega arith), lt-ltb (nth m 8) 0x100 (omega arith))
+    (rw (c .before .before .before .before .before .opt-view .ensures, c .before .opt-view2 .ensures)))
 
 pub hear-server-spec : {M : Type 1} → statement M
 hear-server-spec =

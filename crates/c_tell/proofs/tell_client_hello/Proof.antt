@@ -1,5 +1,5 @@
--- `c_tell::tell_client_hello` meets its contract: the array has the numbers of the ClientHello, each part that may be missing by
--- `opt_numbers`. Assumes nothing.
+-- `c_tell::tell_client_hello` meets its contract: the array has the numbers of the ClientHello,
+-- each part that may be missing by `opt_numbers`. Assumes nothing.
 use Rattle.c_tell.proofs.Telling.{told-as}
 use borrow.Author.Needs.{needs}
 use Rattle.c_tell.proofs.tell_client_hello.Statement.{statement}
@@ -25,8 +25,10 @@ same-length c = search needs
 
 returns : tie.Need-returns
 returns c =
-    let o = c .before .before .before .before .before .before in
-    told-as _ _ (c .before .before .gen-numbers .ensures) (rw (o .before .opt-numbers .ensures, o .opt-numbers2 .ensures))
+    let early = c .before .before .before .before .before .before in
+    let o = early in
+    told-as _ _ (c .before .before .gen-numbers .ensures)
+    (rw (o .before .opt-numbers .ensures, o .opt-numbers2 .ensures))
 
 pub tell-client-hello-spec : {M : Type 1} → statement M
 tell-client-hello-spec =

@@ -1,5 +1,5 @@
--- `c_tell::tell_draft18` meets its contract: the array has the numbers of the draft 18 ServerHello, the part that may be missing by
--- `opt_numbers`. Assumes nothing.
+-- `c_tell::tell_draft18` meets its contract: the array has the numbers of the draft 18 ServerHello,
+-- the part that may be missing by `opt_numbers`. Assumes nothing.
 use Rattle.c_tell.proofs.Telling.{told-as}
 use borrow.Author.Needs.{needs}
 use Rattle.c_tell.proofs.tell_draft18.Statement.{statement}
@@ -24,7 +24,9 @@ same-length : tie.Need-same-length
 same-length c = search needs
 
 returns : tie.Need-returns
-returns c = told-as _ _ (c .before .before .gen-numbers .ensures) (rw (c .before .before .before .before .before .before .before .opt-numbers .ensures))
+returns c =
+    let early = c .before .before .before .before .before .before .before in
+    told-as _ _ (c .before .before .gen-numbers .ensures) (rw (early .opt-numbers .ensures))
 
 pub tell-draft18-spec : {M : Type 1} → statement M
 tell-draft18-spec =

@@ -115,13 +115,15 @@ same-length-2 : tie.Need-same-length-2
 same-length-2 c = search needs
 
 returns-2 : tie.Need-returns-2
-returns-2 c = rw (c .before .before .before .before .before .m .given .1) (c .before .before .tell-client-hello .ensures)
+returns-2 c =
+    rw (c .before .before .before .before .before .m .given .1) (c .before .before .tell-client-hello .ensures)
 
 same-length-3 : tie.Need-same-length-3
 same-length-3 c = search needs
 
 returns-3 : tie.Need-returns-3
-returns-3 c = rw (c .before .before .before .before .before .m2 .given .1) (c .before .before .tell-server-hello .ensures)
+returns-3 c =
+    rw (c .before .before .before .before .before .m2 .given .1) (c .before .before .tell-server-hello .ensures)
 
 same-length-4 : tie.Need-same-length-4
 same-length-4 c = search needs
@@ -151,7 +153,8 @@ same-length-8 : tie.Need-same-length-8
 same-length-8 c = search needs
 
 returns-8 : tie.Need-returns-8
-returns-8 c = rw (c .before .before .before .before .before .m6 .given .1) (c .before .before .tell-certificate .ensures)
+returns-8 c =
+    rw (c .before .before .before .before .before .m6 .given .1) (c .before .before .tell-certificate .ensures)
 
 same-length-9 : tie.Need-same-length-9
 same-length-9 c = search needs
@@ -199,13 +202,15 @@ same-length-16 : tie.Need-same-length-16
 same-length-16 c = search needs
 
 returns-16 : tie.Need-returns-16
-returns-16 c = rw (c .before .before .before .before .before .m14 .given .1) (c .before .before .tell-next-protocol .ensures)
+returns-16 c =
+    rw (c .before .before .before .before .before .m14 .given .1) (c .before .before .tell-next-protocol .ensures)
 
 same-length-17 : tie.Need-same-length-17
 same-length-17 c = search needs
 
 returns-17 : tie.Need-returns-17
-returns-17 c = rw (c .before .before .before .before .before .m15 .given .1) (c .before .before .tell-key-update .ensures)
+returns-17 c =
+    rw (c .before .before .before .before .before .m15 .given .1) (c .before .before .tell-key-update .ensures)
 
 pub tell-message-spec : {M : Type 1} → statement M
 tell-message-spec =

@@ -1,4 +1,5 @@
--- `claims::all_claims` meets its contract: every claim, each by the theorem that shows it. Assumes nothing.
+-- `claims::all_claims` meets its contract: every claim, each by the theorem that shows it. Assumes
+-- nothing.
 use native.Mathlib.Omega.{arith}
 use Rattle.refusal.proofs.Told.{numbers-apart}
 use Rattle.wire.proofs.Parts.{one-part}
@@ -19,7 +20,7 @@ use Rattle.envelope.proofs.Answers.{one-head}
 use Rattle.record_walk.proofs.Walking.{every-walk}
 use Rattle.record.proofs.Whole as records
 use Rattle.record_open.proofs.Answers.{one-plaintext, one-opened}
-use Rattle.record_joined.proofs.Captures.{no-record-more, same-bytes}
+use Rattle.record_joined.proofs.Joined.{no-record-more, same-bytes}
 use Rattle.c_hear.proofs.HeardBack.{heard-again}
 use Rattle.claim_wayback.proofs.Hellos.{every-text}
 use Rattle.claim_wayback.proofs.Demand3 as back
@@ -27,7 +28,7 @@ use Rattle.claim_wayback.proofs.WayBack.{way-back}
 use Rattle.claim_rows.proofs.Rows.{each-row}
 use Rattle.claim_readers.proofs.Table.{every-reading}
 use Rattle.claim_writers.proofs.Writers.{every-writing}
-use Rattle.claims.proofs.Crossed.{header-and-record, tells-its-type, every-type}
+use Rattle.claims.proofs.Crossed.{header-and-record, tells-its-type, every-type, these-written}
 use Rattle.claims.proofs.all_claims.Statement.{statement}
 use Rattle.claims.proofs.all_claims.Tie as tie
 
@@ -89,10 +90,11 @@ returns c = record {
   readers = every-reader;
   sameBytes = same-bytes;
   wayBack = way-back;
-  heardAgain = heard-again;
+  hearsBack = heard-again;
   header = header-and-record;
   kinds = tells-its-type;
-  paperRows = each-row .0;
+  written = these-written;
+  rulesRows = each-row .0;
   otherRows = each-row .1;
   readersSay = every-reading;
   writersSay = every-writing;

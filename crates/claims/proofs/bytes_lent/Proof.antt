@@ -1,4 +1,5 @@
--- `claims::bytes_lent` meets its contract: each element of a slice of bytes is one, by its type. Assumes nothing.
+-- `claims::bytes_lent` meets its contract: each element of a slice of bytes is one, by its type.
+-- Assumes nothing.
 use borrow.Author.Needs.{needs}
 use Rattle.claims.proofs.bytes_lent.Statement.{statement}
 use Rattle.claims.proofs.bytes_lent.Tie as tie

@@ -148,7 +148,25 @@ unfolding opened
 returns-17 c =
     let k = c .before .before .before .args .msg-type in
     ap refused (c .unplaced .ensures)
-    ∙ sym (⊎-elim (λ w. lone k _ _ (w .keys17)) (λ w. let m = w .rest in rw (ne-eqb k 0x00 (m .0 .0 .0 .0 .0 .0 .0 .0 .0 .0 .0 .0 .0 .0 .0 .0 .1), ne-eqb k 0x01 (m .0 .0 .0 .0 .0 .0 .0 .0 .0 .0 .0 .0 .0 .0 .0 .1), ne-eqb k 0x02 (m .0 .0 .0 .0 .0 .0 .0 .0 .0 .0 .0 .0 .0 .0 .1), ne-eqb k 0x04 (m .0 .0 .0 .0 .0 .0 .0 .0 .0 .0 .0 .0 .0 .1), ne-eqb k 0x05 (m .0 .0 .0 .0 .0 .0 .0 .0 .0 .0 .0 .0 .1), ne-eqb k 0x06 (m .0 .0 .0 .0 .0 .0 .0 .0 .0 .0 .0 .1), ne-eqb k 0x0b (m .0 .0 .0 .0 .0 .0 .0 .0 .0 .0 .1), ne-eqb k 0x0c (m .0 .0 .0 .0 .0 .0 .0 .0 .0 .1), ne-eqb k 0x0d (m .0 .0 .0 .0 .0 .0 .0 .0 .1), ne-eqb k 0x0e (m .0 .0 .0 .0 .0 .0 .0 .1), ne-eqb k 0x0f (m .0 .0 .0 .0 .0 .0 .1), ne-eqb k 0x10 (m .0 .0 .0 .0 .0 .1), ne-eqb k 0x14 (m .0 .0 .0 .0 .1), ne-eqb k 0x16 (m .0 .0 .0 .1), ne-eqb k 0x18 (m .0 .0 .1), ne-eqb k 0x43 (m .0 .1))) (c .before .match .came))
+    ∙ sym (⊎-elim (λ w. lone k _ _ (w .keys17))
+    (λ w. let m = w .rest in rw (
+      ne-eqb k 0x00 (m .0 .0 .0 .0 .0 .0 .0 .0 .0 .0 .0 .0 .0 .0 .0 .0 .1),
+      ne-eqb k 0x01 (m .0 .0 .0 .0 .0 .0 .0 .0 .0 .0 .0 .0 .0 .0 .0 .1),
+      ne-eqb k 0x02 (m .0 .0 .0 .0 .0 .0 .0 .0 .0 .0 .0 .0 .0 .0 .1),
+      ne-eqb k 0x04 (m .0 .0 .0 .0 .0 .0 .0 .0 .0 .0 .0 .0 .0 .1),
+      ne-eqb k 0x05 (m .0 .0 .0 .0 .0 .0 .0 .0 .0 .0 .0 .0 .1),
+      ne-eqb k 0x06 (m .0 .0 .0 .0 .0 .0 .0 .0 .0 .0 .0 .1),
+      ne-eqb k 0x0b (m .0 .0 .0 .0 .0 .0 .0 .0 .0 .0 .1),
+      ne-eqb k 0x0c (m .0 .0 .0 .0 .0 .0 .0 .0 .0 .1),
+      ne-eqb k 0x0d (m .0 .0 .0 .0 .0 .0 .0 .0 .1),
+      ne-eqb k 0x0e (m .0 .0 .0 .0 .0 .0 .0 .1),
+      ne-eqb k 0x0f (m .0 .0 .0 .0 .0 .0 .1),
+      ne-eqb k 0x10 (m .0 .0 .0 .0 .0 .1),
+      ne-eqb k 0x14 (m .0 .0 .0 .0 .1),
+      ne-eqb k 0x16 (m .0 .0 .0 .1),
+      ne-eqb k 0x18 (m .0 .0 .1),
+      ne-eqb k 0x43 (m .0 .1),
+    )) (c .before .match .came))
 
 pub parse-tls-handshake-msg-spec : {M : Type 1} → statement M
 parse-tls-handshake-msg-spec =

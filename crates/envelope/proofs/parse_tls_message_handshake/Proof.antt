@@ -1,4 +1,5 @@
--- `envelope::parse_tls_message_handshake` meets its contract: the head, and then what its type opens. Assumes nothing.
+-- `envelope::parse_tls_message_handshake` meets its contract: the head, and then what its type
+-- opens. Assumes nothing.
 use mathlib.Core.Path.{ap}
 use Rattle.refusal.specs.Answers.{refused}
 use Rattle.refusal.proofs.Told.{case}
@@ -17,7 +18,9 @@ enum-known-r c = search needs
 
 returns : tie.Need-returns
 unfolding message
-returns c = rw (met-no-head _ 0 (case headSays (c .before .before .before .parse-tls-message-head .ensures) (c .before .r .given .1)))
+returns c =
+    rw (met-no-head _ 0 (case headSays (c .before .before .before .parse-tls-message-head .ensures)
+    (c .before .r .given .1)))
 
 enum-known-h : tie.Need-enum-known-h
 enum-known-h c = search needs
@@ -42,14 +45,20 @@ unfolding message
 returns-2 c =
     let f = c .before .before .before .before in
     let g = f .before .before .before in
-    rw (met-no-body _ 0 (case headSays (g .before .before .before .parse-tls-message-head .ensures) (g .before .h .given .1)) (case messageSays (rw (f .before .part-of .ensures) at (f .parse-tls-handshake-body .ensures)) (c .before .before .r2 .given .1))) (ap refused (c .inside .ensures))
+    rw (met-no-body _ 0 (case headSays (g .before .before .before .parse-tls-message-head .ensures)
+    (g .before .h .given .1))
+    (case messageSays (rw (f .before .part-of .ensures) at (f .parse-tls-handshake-body .ensures))
+    (c .before .before .r2 .given .1))) (ap refused (c .inside .ensures))
 
 returns-3 : tie.Need-returns-3
 unfolding message
 returns-3 c =
     let f = c .before .before .before in
     let g = f .before .before .before in
-    rw (met-got _ 0 (case headSays (g .before .before .before .parse-tls-message-head .ensures) (g .before .h .given .1)) (case messageSays (rw (f .before .part-of .ensures) at (f .parse-tls-handshake-body .ensures)) (c .before .m .given .1)))
+    rw (met-got _ 0 (case headSays (g .before .before .before .parse-tls-message-head .ensures)
+    (g .before .h .given .1))
+    (case messageSays (rw (f .before .part-of .ensures) at (f .parse-tls-handshake-body .ensures))
+    (c .before .m .given .1)))
 
 pub parse-tls-message-handshake-spec : {M : Type 1} → statement M
 parse-tls-message-handshake-spec =

@@ -32,7 +32,10 @@ returns-2 : tie.Need-returns-2
 unfolding headAt
 returns-2 c =
     let g = c .before .before .before .before in
-    rw (case numberSays (g .before .before .before .parse-be .ensures .0) (g .before .n .given .1), case partSays (c .before .before .before .length-data .ensures) (c .before .r2 .given .1))
+    rw (
+      case numberSays (g .before .before .before .parse-be .ensures .0) (g .before .n .given .1),
+      case partSays (c .before .before .before .length-data .ensures) (c .before .r2 .given .1),
+    )
 
 enum-known-p : tie.Need-enum-known-p
 enum-known-p c = search needs
@@ -47,7 +50,10 @@ unfolding headAt
 returns-3 c =
     let f = c .before .before in
     let g = f .before .before .before .before in
-    rw (case numberSays (g .before .before .before .parse-be .ensures .0) (g .before .n .given .1), case partSays (f .before .before .before .length-data .ensures) (f .before .p .given .1))
+    rw (
+      case numberSays (g .before .before .before .parse-be .ensures .0) (g .before .n .given .1),
+      case partSays (f .before .before .before .length-data .ensures) (f .before .p .given .1),
+    )
 
 pub parse-tls-message-head-spec : {M : Type 1} → statement M
 parse-tls-message-head-spec =

@@ -1,5 +1,5 @@
--- `field::broken` meets its contract: a kind with a rule has one refusal for a length that it does not allow, another allows all. Assumes
--- nothing.
+-- `field::broken` meets its contract: a rule that refuses has one refusal for a length that it does
+-- not allow, another allows all. Assumes nothing.
 use Prim.Native.Nat.{ℕ, _%_}
 use mathlib.Core.Path.{_≡_}
 use mathlib.Core.Bool.{true, false}
@@ -51,18 +51,24 @@ returns c s n e = absurd (true-false (rw (c .before .enum-told .given .1) at e))
 
 returns-2 : tie.Need-returns-2
 unfolding ruled
-returns-2 c s n = rw (c .before .enum-told2 .given .1) (unless-fails (leb n 32) (λ at behind. refusal Verify at 0) _ _ _ (c .refuse2 .ensures))
+returns-2 c s n =
+    rw (c .before .enum-told2 .given .1)
+    (unless-fails (leb n 32) (λ at behind. refusal Verify at 0) _ _ _ (c .refuse2 .ensures))
 
 returns-3 : tie.Need-returns-3
 unfolding ruled
-returns-3 c s n = rw (c .before .enum-told3 .given .1) (unless-fails (eqb (n % 2) 0) (λ at behind. refusal LengthValue behind 0) _ _ _ (c .refuse3 .ensures))
+returns-3 c s n =
+    rw (c .before .enum-told3 .given .1)
+    (unless-fails (eqb (n % 2) 0) (λ at behind. refusal LengthValue behind 0) _ _ _ (c .refuse3 .ensures))
 
 returns-4 : tie.Need-returns-4
 returns-4 c s n e = absurd (true-false (rw (c .before .enum-told4 .given .1) at e))
 
 returns-5 : tie.Need-returns-5
 unfolding ruled
-returns-5 c s n = rw (c .before .enum-told5 .given .1) (unless-fails (leb n 16640) (λ at behind. refusal TooLarge at 0) _ _ _ (c .refuse5 .ensures))
+returns-5 c s n =
+    rw (c .before .enum-told5 .given .1)
+    (unless-fails (leb n 16640) (λ at behind. refusal TooLarge at 0) _ _ _ (c .refuse5 .ensures))
 
 pub broken-spec : {M : Type 1} → statement M
 broken-spec =

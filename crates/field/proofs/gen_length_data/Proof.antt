@@ -1,5 +1,5 @@
--- `field::gen_length_data` meets its contract: the length is not allowed, or there is no room, or length and part are put in. Assumes
--- nothing.
+-- `field::gen_length_data` meets its contract: the length is not allowed, or there is no room, or
+-- length and part are put in. Assumes nothing.
 use mathlib.Core.Path.{ap, sym, _∙_}
 use native.Mathlib.Omega.{arith}
 use Rattle.refusal.specs.Answers.{refused}
@@ -23,7 +23,12 @@ add-room-for : tie.Need-add-room-for
 add-room-for c =
     let m = c .before .before .before in
     let a = m .before .before .before .args in
-    omega (arith, width-bounds (a .w), below _ (ruleOf (a .rule)) _ (width-bounds (a .w) .1) (sym (m .may-follow .ensures) ∙ c .before .before .if1 .taken))
+    omega (
+      arith,
+      width-bounds (a .w),
+      below _ (ruleOf (a .rule)) _ (width-bounds (a .w) .1)
+          (sym (m .may-follow .ensures) ∙ c .before .before .if1 .taken),
+    )
 
 room-for-requires : tie.Need-room-for-requires
 room-for-requires c κs = search needs
@@ -59,7 +64,9 @@ returns c =
     let k = c .before .before .before in
     let m = k .before .before .before .before in
     let e = case partSays (k .room-for .ensures) (c .before .r .given .1) in
-    let o = vector-out _ (ruleOf (m .before .before .before .args .rule)) _ _ _ (sym (m .may-follow .ensures) ∙ k .before .before .before .if1 .taken) (rw (k .before .before .width-bytes .ensures) at e) in
+    let o = vector-out _ (ruleOf (m .before .before .before .args .rule)) _ _ _
+    (sym (m .may-follow .ensures) ∙ k .before .before .before .if1 .taken)
+    (rw (k .before .before .width-bytes .ensures) at e) in
     (sym (o .says), sym (o .leaves))
 
 same-length-2 : tie.Need-same-length-2
@@ -74,7 +81,8 @@ returns-2 c =
     let m = k .before .before .before .before in
     let w = k .before .before .width-bytes .ensures in
     let e = case partSays (k .room-for .ensures) (p .p .given .1) in
-    let o = vector-in _ (ruleOf (m .before .before .before .args .rule)) _ _ _ _ _ (sym (m .may-follow .ensures) ∙ k .before .before .before .if1 .taken) (rw w at e)
+    let o = vector-in _ (ruleOf (m .before .before .before .args .rule)) _ _ _ _ _
+    (sym (m .may-follow .ensures) ∙ k .before .before .before .if1 .taken) (rw w at e)
     (b .gen-be .ensures .1) (rw w at (g .gen-bytes .ensures .1)) in
     (sym (o .says), sym (o .leaves))
 

@@ -1,4 +1,5 @@
--- `field::length_data` meets its contract: the length is not there, or not allowed, or decides the part. Assumes nothing.
+-- `field::length_data` meets its contract: the length is not there, or not allowed, or decides the
+-- part. Assumes nothing.
 use mathlib.Core.Path.{sym, _∙_}
 use Rattle.refusal.proofs.Told.{case}
 use Rattle.wire.specs.Numbers.{numberSays}
@@ -38,7 +39,8 @@ unfolding step
 returns-2 c =
     let t = c .before .before in
     let k = t .before .before .before in
-    let a = allows-none (ruleOf (k .before .before .before .before .args .rule)) (k .n .given .0 .0 .value) (sym (t .before .allows .ensures) ∙ t .if1 .taken) in
+    let a = allows-none (ruleOf (k .before .before .before .before .args .rule)) (k .n .given .0 .0 .value)
+    (sym (t .before .allows .ensures) ∙ t .if1 .taken) in
     rw (case numberSays (k .before .before .parse-be .ensures .0) (k .n .given .1))
     (rw (c .before .past .ensures) at (c .take-or .ensures) ∙ sym (ruled-in _ _ _ _ _ a))
 
@@ -47,7 +49,8 @@ unfolding step
 returns-3 c =
     let t = c .before in
     let k = t .before .before .before in
-    rw (case numberSays (k .before .before .parse-be .ensures .0) (k .n .given .1)) (sym (c .broken .ensures _ _ (sym (t .before .allows .ensures) ∙ t .if1 .left)))
+    rw (case numberSays (k .before .before .parse-be .ensures .0) (k .n .given .1))
+    (sym (c .broken .ensures _ _ (sym (t .before .allows .ensures) ∙ t .if1 .left)))
 
 pub length-data-spec : {M : Type 1} → statement M
 length-data-spec =

@@ -1,4 +1,5 @@
--- `field::may_follow` meets its contract: the width cannot hold the length, or the rule decides. Assumes nothing.
+-- `field::may_follow` meets its contract: the width cannot hold the length, or the rule decides.
+-- Assumes nothing.
 use borrow.Author.Needs.{needs}
 use Rattle.field.proofs.may_follow.Statement.{statement}
 use Rattle.field.proofs.may_follow.Tie as tie

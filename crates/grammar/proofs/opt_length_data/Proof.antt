@@ -21,7 +21,8 @@ returns c = rw (case partSays (c .before .before .length-data .ensures) (c .enum
 
 returns-2 : tie.Need-returns-2
 unfolding blockAt
-returns-2 c = rw (case partSays (c .before .before .before .before .length-data .ensures) (c .before .before .p .given .1))
+returns-2 c =
+    rw (case partSays (c .before .before .before .before .length-data .ensures) (c .before .before .p .given .1))
 
 pub opt-length-data-spec : {M : Type 1} → statement M
 opt-length-data-spec =

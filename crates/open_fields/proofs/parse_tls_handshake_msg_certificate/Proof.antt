@@ -1,4 +1,5 @@
--- `open_fields::parse_tls_handshake_msg_certificate` meets its contract: what was read, as a message. Assumes nothing.
+-- `open_fields::parse_tls_handshake_msg_certificate` meets its contract: what was read, as a
+-- message. Assumes nothing.
 use Rattle.refusal.proofs.Told.{case}
 use Rattle.read_certs.specs.Certs.{certificateSays}
 use borrow.Author.Needs.{needs}
@@ -15,10 +16,12 @@ enum-known-c : tie.Need-enum-known-c
 enum-known-c c = search needs
 
 returns : tie.Need-returns
-returns c = rw (case certificateSays (c .before .before .before .parse-tls-certificate .ensures) (c .before .r .given .1))
+returns c =
+    rw (case certificateSays (c .before .before .before .parse-tls-certificate .ensures) (c .before .r .given .1))
 
 returns-2 : tie.Need-returns-2
-returns-2 c = rw (case certificateSays (c .before .before .before .parse-tls-certificate .ensures) (c .before .c .given .1))
+returns-2 c =
+    rw (case certificateSays (c .before .before .before .parse-tls-certificate .ensures) (c .before .c .given .1))
 
 pub parse-tls-handshake-msg-certificate-spec : {M : Type 1} → statement M
 parse-tls-handshake-msg-certificate-spec =

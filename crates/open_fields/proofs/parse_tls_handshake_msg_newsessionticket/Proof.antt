@@ -1,4 +1,5 @@
--- `open_fields::parse_tls_handshake_msg_newsessionticket` meets its contract: what was read, as a message. Assumes nothing.
+-- `open_fields::parse_tls_handshake_msg_newsessionticket` meets its contract: what was read, as a
+-- message. Assumes nothing.
 use Rattle.refusal.proofs.Told.{case}
 use Rattle.read_others.specs.Body.{ticketSays}
 use borrow.Author.Needs.{needs}
@@ -15,10 +16,12 @@ enum-known-c : tie.Need-enum-known-c
 enum-known-c c = search needs
 
 returns : tie.Need-returns
-returns c = rw (case ticketSays (c .before .before .before .parse-tls-newsessionticket .ensures) (c .before .r .given .1))
+returns c =
+    rw (case ticketSays (c .before .before .before .parse-tls-newsessionticket .ensures) (c .before .r .given .1))
 
 returns-2 : tie.Need-returns-2
-returns-2 c = rw (case ticketSays (c .before .before .before .parse-tls-newsessionticket .ensures) (c .before .c .given .1))
+returns-2 c =
+    rw (case ticketSays (c .before .before .before .parse-tls-newsessionticket .ensures) (c .before .c .given .1))
 
 pub parse-tls-handshake-msg-newsessionticket-spec : {M : Type 1} → statement M
 parse-tls-handshake-msg-newsessionticket-spec =

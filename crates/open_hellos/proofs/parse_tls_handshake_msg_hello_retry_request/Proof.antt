@@ -1,4 +1,5 @@
--- `open_hellos::parse_tls_handshake_msg_hello_retry_request` meets its contract: what was read, as a message. Assumes nothing.
+-- `open_hellos::parse_tls_handshake_msg_hello_retry_request` meets its contract: what was read, as
+-- a message. Assumes nothing.
 use Rattle.refusal.proofs.Told.{case}
 use Rattle.read_others.specs.Body.{retrySays}
 use borrow.Author.Needs.{needs}
@@ -15,10 +16,12 @@ enum-known-c : tie.Need-enum-known-c
 enum-known-c c = search needs
 
 returns : tie.Need-returns
-returns c = rw (case retrySays (c .before .before .before .parse-tls-hello-retry-request .ensures) (c .before .r .given .1))
+returns c =
+    rw (case retrySays (c .before .before .before .parse-tls-hello-retry-request .ensures) (c .before .r .given .1))
 
 returns-2 : tie.Need-returns-2
-returns-2 c = rw (case retrySays (c .before .before .before .parse-tls-hello-retry-request .ensures) (c .before .c .given .1))
+returns-2 c =
+    rw (case retrySays (c .before .before .before .parse-tls-hello-retry-request .ensures) (c .before .c .given .1))
 
 pub parse-tls-handshake-msg-hello-retry-request-spec : {M : Type 1} → statement M
 parse-tls-handshake-msg-hello-retry-request-spec =

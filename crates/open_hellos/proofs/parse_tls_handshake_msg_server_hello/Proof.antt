@@ -1,4 +1,5 @@
--- `open_hellos::parse_tls_handshake_msg_server_hello` meets its contract: the version decides what is read, as a message. Assumes nothing.
+-- `open_hellos::parse_tls_handshake_msg_server_hello` meets its contract: the version decides what
+-- is read, as a message. Assumes nothing.
 use borrow.Author.Tests.{eq-eqb, ne-eqb}
 use Rattle.refusal.proofs.Told.{case}
 use Rattle.wire.specs.Numbers.{numberSays}
@@ -34,16 +35,18 @@ enum-known-c c = search needs
 returns-2 : tie.Need-returns-2
 unfolding serverMessage
 returns-2 c =
-    let i = c .before .before .before .before in
-    let g = i .before .before .before in
-    rw (case numberSays (g .before .before .parse-be .ensures .0) (g .n .given .1), eq-eqb _ _ (i .if1 .taken), case draft18Says (c .before .before .before .parse-tls-server-hello-tlsv13draft18 .ensures .0) (c .before .r2 .given .1))
+    let k = c .before .before .before in
+    let g = k .before .before .before .before in
+    rw (case numberSays (g .before .before .parse-be .ensures .0) (g .n .given .1), eq-eqb _ _ (k .before .if1 .taken))
+    (rw (case draft18Says (k .parse-tls-server-hello-tlsv13draft18 .ensures .0) (c .before .r2 .given .1)))
 
 returns-3 : tie.Need-returns-3
 unfolding serverMessage
 returns-3 c =
-    let i = c .before .before .before .before in
-    let g = i .before .before .before in
-    rw (case numberSays (g .before .before .parse-be .ensures .0) (g .n .given .1), eq-eqb _ _ (i .if1 .taken), case draft18Says (c .before .before .before .parse-tls-server-hello-tlsv13draft18 .ensures .0) (c .before .c .given .1))
+    let k = c .before .before .before in
+    let g = k .before .before .before .before in
+    rw (case numberSays (g .before .before .parse-be .ensures .0) (g .n .given .1), eq-eqb _ _ (k .before .if1 .taken))
+    (rw (case draft18Says (k .parse-tls-server-hello-tlsv13draft18 .ensures .0) (c .before .c .given .1)))
 
 parse-tls-handshake-server-hello-requires : tie.Need-parse-tls-handshake-server-hello-requires
 parse-tls-handshake-server-hello-requires c κs = search needs
@@ -57,16 +60,18 @@ enum-known-c-2 c = search needs
 returns-4 : tie.Need-returns-4
 unfolding serverMessage
 returns-4 c =
-    let i = c .before .before .before .before in
-    let g = i .before .before .before in
-    rw (case numberSays (g .before .before .parse-be .ensures .0) (g .n .given .1), ne-eqb _ _ (i .if1 .left), case serverSays (c .before .before .before .parse-tls-handshake-server-hello .ensures .0) (c .before .r3 .given .1))
+    let k = c .before .before .before in
+    let g = k .before .before .before .before in
+    rw (case numberSays (g .before .before .parse-be .ensures .0) (g .n .given .1), ne-eqb _ _ (k .before .if1 .left))
+    (rw (case serverSays (k .parse-tls-handshake-server-hello .ensures .0) (c .before .r3 .given .1)))
 
 returns-5 : tie.Need-returns-5
 unfolding serverMessage
 returns-5 c =
-    let i = c .before .before .before .before in
-    let g = i .before .before .before in
-    rw (case numberSays (g .before .before .parse-be .ensures .0) (g .n .given .1), ne-eqb _ _ (i .if1 .left), case serverSays (c .before .before .before .parse-tls-handshake-server-hello .ensures .0) (c .before .c2 .given .1))
+    let k = c .before .before .before in
+    let g = k .before .before .before .before in
+    rw (case numberSays (g .before .before .parse-be .ensures .0) (g .n .given .1), ne-eqb _ _ (k .before .if1 .left))
+    (rw (case serverSays (k .parse-tls-handshake-server-hello .ensures .0) (c .before .c2 .given .1)))
 
 pub parse-tls-handshake-msg-server-hello-spec : {M : Type 1} → statement M
 parse-tls-handshake-msg-server-hello-spec =

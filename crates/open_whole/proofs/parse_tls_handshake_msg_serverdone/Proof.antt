@@ -1,4 +1,5 @@
--- `open_whole::parse_tls_handshake_msg_serverdone` meets its contract: the part that was taken, as a message. Assumes nothing.
+-- `open_whole::parse_tls_handshake_msg_serverdone` meets its contract: the part that was taken, as
+-- a message. Assumes nothing.
 use Rattle.refusal.proofs.Told.{case}
 use Rattle.wire.specs.Parts.{partSays}
 use Rattle.open_whole.specs.Whole.{wholeBody}

@@ -1,4 +1,5 @@
--- `read_client::parse_tls_handshake_client_hello` meets its contract, field by field. Assumes nothing.
+-- `read_client::parse_tls_handshake_client_hello` meets its contract, field by field. Assumes
+-- nothing.
 use Prim.Native.Nat.{ℕ}
 use mathlib.Core.Path.{sym, _∙_}
 use mathlib.Core.List.{List, [], _∷_}
@@ -31,13 +32,15 @@ abbrev S2 : tie.After-p → List ℕ
 S2 c = S1 (c .before .before .before .before)
 
 abbrev at2 : (c : tie.After-p) → So (reading client (S2 c)) (S2 c) (methods ∷ [])
-at2 c = and (at1 (c .before .before .before .before)) (case partSays (c .before .before .length-data .ensures) (c .p .given .1))
+at2 c = and (at1 (c .before .before .before .before))
+    (case partSays (c .before .before .length-data .ensures) (c .p .given .1))
 
 abbrev S3 : tie.After-p2 → List ℕ
 S3 c = S2 (c .before .before .before .before)
 
 abbrev at3 : (c : tie.After-p2) → So (reading client (S3 c)) (S3 c) []
-at3 c = and (at2 (c .before .before .before .before)) (case partSays (c .before .before .length-data2 .ensures) (c .p2 .given .1))
+at3 c = and (at2 (c .before .before .before .before))
+    (case partSays (c .before .before .length-data2 .ensures) (c .p2 .given .1))
 
 -- what was lent is bytes, a fact of the slice's type, so that demand 3 holds of it
 split : (c : tie.After-shared-slice-known) → BySplit client (now (c .before .args .i))
@@ -60,7 +63,8 @@ enum-known-r c = search needs
 
 returns : tie.Need-returns
 returns c = (
-  sym (stop-all startRows (ciphers ∷ methods ∷ []) (begin client _) (not-begun _ (case startSays (c .before .before .before .parse-start .ensures) (c .before .r .given .1)))),
+  sym (stop-all startRows (ciphers ∷ methods ∷ []) (begin client _)
+      (not-begun _ (case startSays (c .before .before .before .parse-start .ensures) (c .before .r .given .1)))),
   split (c .before .before .before .before),
 )
 
@@ -75,7 +79,8 @@ enum-known-r-2 c = search needs
 
 returns-2 : tie.Need-returns-2
 returns-2 c = (
-  sym (stop (at1 (c .before .before .before .before .before)) (case partSays (c .before .before .before .length-data .ensures) (c .before .r2 .given .1))),
+  sym (stop (at1 (c .before .before .before .before .before))
+      (case partSays (c .before .before .before .length-data .ensures) (c .before .r2 .given .1))),
   split1 (c .before .before .before .before .before),
 )
 
@@ -90,7 +95,8 @@ enum-known-r-3 c = search needs
 
 returns-3 : tie.Need-returns-3
 returns-3 c = (
-  sym (stop (at2 (c .before .before .before .before .before)) (case partSays (c .before .before .before .length-data2 .ensures) (c .before .r3 .given .1))),
+  sym (stop (at2 (c .before .before .before .before .before))
+      (case partSays (c .before .before .before .length-data2 .ensures) (c .before .r3 .given .1))),
   split2 (c .before .before .before .before .before),
 )
 
@@ -103,8 +109,10 @@ opt-length-data-requires c κs = search needs
 returns-4 : tie.Need-returns-4
 returns-4 c =
     let f = c .before .before .before .before .before in
-    let b = b1 (f .before .before .before .before .before .before .before .before) in
-    (sym (end (at3 f) ∙ rw (b .version, b .random, b .id, c .before .before .before .opt-length-data .ensures)), split3 f)
+    let b = b1 (f .before .before .before .before .before .before .before .before) in (
+      sym (end (at3 f) ∙ rw (b .version, b .random, b .id, c .before .before .before .opt-length-data .ensures)),
+      split3 f,
+    )
 
 pub parse-tls-handshake-client-hello-spec : {M : Type 1} → statement M
 parse-tls-handshake-client-hello-spec =

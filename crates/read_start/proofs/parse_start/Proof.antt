@@ -6,12 +6,10 @@ use native.Mathlib.Omega.{arith}
 use denote.Ref.{now}
 use Rattle.refusal.proofs.Told.{case}
 use Rattle.wire.specs.Parts.{partSays}
-use Rattle.wire.specs.Numbers.{numberSays}
-use Rattle.wire.proofs.Numbers.{number-value, below-limit}
-use Rattle.field.proofs.Rules.{number-field, number-field-no}
 use Rattle.grammar.specs.Hellos.{random, sessionId}
 use Rattle.grammar.specs.Forms.{reading}
 use Rattle.grammar.proofs.Chain.{So, begin, and, stop, end}
+use Rattle.grammar.proofs.Numbers.{Found, found, not-found}
 use Rattle.read_start.specs.Start.{helloStart}
 use borrow.Author.Needs.{needs}
 use Rattle.read_start.proofs.parse_start.Statement.{statement}
@@ -21,20 +19,25 @@ use Rattle.read_start.proofs.parse_start.Tie as tie
 abbrev S1 : tie.After-n → List ℕ
 S1 c = now (c .before .before .before .before .args .i)
 
+n1 : (c : tie.After-n) → Found 2 (S1 c) 0 (c .n .given .0 .0)
+n1 c = found 2 (c .before .before .parse-be .ensures) (c .n .given .1)
+
 abbrev at1 : (c : tie.After-n) → So (reading helloStart (S1 c)) (S1 c) (random ∷ sessionId ∷ [])
-at1 c = and (begin helloStart (S1 c)) (number-field 2 _ _ (case numberSays (c .before .before .parse-be .ensures .0) (c .n .given .1)))
+at1 c = and (begin helloStart (S1 c)) (n1 c .field)
 
 abbrev S2 : tie.After-p → List ℕ
 S2 c = S1 (c .before .before .before .before)
 
 abbrev at2 : (c : tie.After-p) → So (reading helloStart (S2 c)) (S2 c) (sessionId ∷ [])
-at2 c = and (at1 (c .before .before .before .before)) (case partSays (c .before .before .take .ensures) (c .p .given .1))
+at2 c = and (at1 (c .before .before .before .before))
+    (case partSays (c .before .before .take .ensures) (c .p .given .1))
 
 abbrev S3 : tie.After-p2 → List ℕ
 S3 c = S2 (c .before .before .before .before)
 
 abbrev at3 : (c : tie.After-p2) → So (reading helloStart (S3 c)) (S3 c) []
-at3 c = and (at2 (c .before .before .before .before)) (case partSays (c .before .before .length-data .ensures) (c .p2 .given .1))
+at3 c = and (at2 (c .before .before .before .before))
+    (case partSays (c .before .before .length-data .ensures) (c .p2 .given .1))
 
 parse-be-requires : tie.Need-parse-be-requires
 parse-be-requires c κs = search needs
@@ -43,7 +46,9 @@ enum-known-r : tie.Need-enum-known-r
 enum-known-r c = search needs
 
 returns : tie.Need-returns
-returns c = sym (stop (begin helloStart _) (number-field-no 2 _ _ (case numberSays (c .before .before .before .parse-be .ensures .0) (c .before .r .given .1))))
+returns c =
+    sym (stop (begin helloStart _)
+    (not-found 2 _ _ (c .before .before .before .parse-be .ensures) (c .before .r .given .1)))
 
 enum-known-n : tie.Need-enum-known-n
 enum-known-n c = search needs
@@ -55,7 +60,9 @@ enum-known-r-2 : tie.Need-enum-known-r-2
 enum-known-r-2 c = search needs
 
 returns-2 : tie.Need-returns-2
-returns-2 c = sym (stop (at1 (c .before .before .before .before .before)) (case partSays (c .before .before .before .take .ensures) (c .before .r2 .given .1)))
+returns-2 c =
+    sym (stop (at1 (c .before .before .before .before .before))
+    (case partSays (c .before .before .before .take .ensures) (c .before .r2 .given .1)))
 
 enum-known-p : tie.Need-enum-known-p
 enum-known-p c = search needs
@@ -67,7 +74,9 @@ enum-known-r-3 : tie.Need-enum-known-r-3
 enum-known-r-3 c = search needs
 
 returns-3 : tie.Need-returns-3
-returns-3 c = sym (stop (at2 (c .before .before .before .before .before)) (case partSays (c .before .before .before .length-data .ensures) (c .before .r3 .given .1)))
+returns-3 c =
+    sym (stop (at2 (c .before .before .before .before .before))
+    (case partSays (c .before .before .before .length-data .ensures) (c .before .r3 .given .1)))
 
 enum-known-p-2 : tie.Need-enum-known-p-2
 enum-known-p-2 c = search needs
@@ -77,15 +86,16 @@ non-empty-requires c κs = search needs
 
 cast-t21 : tie.Need-cast-t21
 cast-t21 c =
-    let g = c .before .before .before .before .before .before .before .before .before .before .before .before in
-    omega (arith, below-limit 2 (g .before .before .parse-be .ensures .1) (g .n .given .1))
+    let early = c .before .before .before .before .before .before .before .before .before .before .before .before in
+    omega (arith, n1 (early) .below)
 
 returns-4 : tie.Need-returns-4
 returns-4 c =
     let f = c .before .before .before .before in
-    let g = f .before .before .before .before .before .before .before .before in
-    let v = number-value 2 _ _ (case numberSays (g .before .before .parse-be .ensures .0) (g .n .given .1)) in
-    sym (end (at3 f) ∙ rw (v, c .before .non-empty .ensures))
+    sym (end (at3 f) ∙ rw (
+      n1 (f .before .before .before .before .before .before .before .before) .value,
+      c .before .non-empty .ensures,
+    ))
 
 pub parse-start-spec : {M : Type 1} → statement M
 parse-start-spec =

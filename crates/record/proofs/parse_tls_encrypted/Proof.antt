@@ -1,4 +1,5 @@
--- `record::parse_tls_encrypted` meets its contract, by that of `parse_tls_raw_record`. Assumes nothing.
+-- `record::parse_tls_encrypted` meets its contract, by that of `parse_tls_raw_record`. Assumes
+-- nothing.
 use Rattle.refusal.proofs.Told.{case}
 use Rattle.record.specs.Records.{encrypted, rawSays}
 use borrow.Author.Needs.{needs}
@@ -20,7 +21,9 @@ returns c = rw (case rawSays (c .before .before .before .parse-tls-raw-record .e
 
 returns-2 : tie.Need-returns-2
 unfolding encrypted
-returns-2 c = rw (case rawSays (c .before .before .before .before .before .parse-tls-raw-record .ensures) (c .before .before .before .«record» .given .1))
+returns-2 c =
+    rw (case rawSays (c .before .before .before .before .before .parse-tls-raw-record .ensures)
+    (c .before .before .before .«record» .given .1))
 
 pub parse-tls-encrypted-spec : {M : Type 1} → statement M
 parse-tls-encrypted-spec =

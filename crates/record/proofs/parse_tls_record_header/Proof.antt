@@ -31,7 +31,10 @@ returns-2 : tie.Need-returns-2
 unfolding header
 returns-2 c =
     let g = c .before .before .before .before .before in
-    rw (case numberSays (g .before .before .parse-be .ensures .0) (g .n .given .1), case numberSays (c .before .before .before .parse-be2 .ensures .0) (c .before .r2 .given .1))
+    rw (
+      case numberSays (g .before .before .parse-be .ensures .0) (g .n .given .1),
+      case numberSays (c .before .before .before .parse-be2 .ensures .0) (c .before .r2 .given .1),
+    )
 
 enum-known-n-2 : tie.Need-enum-known-n-2
 enum-known-n-2 c = search needs
@@ -47,7 +50,11 @@ unfolding header
 returns-3 c =
     let f = c .before .before .before .before .before in
     let g = f .before .before .before .before in
-    rw (case numberSays (g .before .before .parse-be .ensures .0) (g .n .given .1), case numberSays (f .before .before .parse-be2 .ensures .0) (f .n2 .given .1), case numberSays (c .before .before .before .parse-be3 .ensures .0) (c .before .r3 .given .1))
+    rw (
+      case numberSays (g .before .before .parse-be .ensures .0) (g .n .given .1),
+      case numberSays (f .before .before .parse-be2 .ensures .0) (f .n2 .given .1),
+      case numberSays (c .before .before .before .parse-be3 .ensures .0) (c .before .r3 .given .1),
+    )
 
 enum-known-n-3 : tie.Need-enum-known-n-3
 enum-known-n-3 c = search needs
@@ -73,7 +80,11 @@ returns-4 c =
     let h = c .before .before .before .before in
     let f = h .before .before .before .before in
     let g = f .before .before .before .before in
-    rw (case numberSays (g .before .before .parse-be .ensures .0) (g .n .given .1), case numberSays (f .before .before .parse-be2 .ensures .0) (f .n2 .given .1), case numberSays (h .before .before .parse-be3 .ensures .0) (h .n3 .given .1))
+    rw (
+      case numberSays (g .before .before .parse-be .ensures .0) (g .n .given .1),
+      case numberSays (f .before .before .parse-be2 .ensures .0) (f .n2 .given .1),
+      case numberSays (h .before .before .parse-be3 .ensures .0) (h .n3 .given .1),
+    )
 
 pub parse-tls-record-header-spec : {M : Type 1} → statement M
 parse-tls-record-header-spec =

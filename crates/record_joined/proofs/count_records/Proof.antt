@@ -1,4 +1,5 @@
--- `record_joined::count_records` meets its contract: what was counted and what is left are all the records. Assumes nothing.
+-- `record_joined::count_records` meets its contract: what was counted and what is left are all the
+-- records. Assumes nothing.
 use Prim.Native.Nat.{ℕ, _+_, _-_, _≤_}
 use mathlib.Core.Path.{_≡_, sym, ap, _∙_}
 use mathlib.Core.List.{List, foldl, foldr}
@@ -11,7 +12,7 @@ use Rattle.list.proofs.Walk.{rest-all, rest-on, rest-end}
 use Rattle.record.specs.Records.{rawSays}
 use Rattle.record.specs.declared.TlsRawRecord.{TlsRawRecord}
 use Rattle.record_joined.specs.Joined.{recordFrom, records, messagesIn, tallied}
-use Rattle.record_joined.proofs.Captures.{left, by-records, from-lies, few-messages}
+use Rattle.record_joined.proofs.Joined.{left, by-records, from-lies, few-messages}
 use Rattle.record_joined.proofs.count_records.Statement.{statement}
 use Rattle.record_joined.proofs.count_records.Tie as tie
 
@@ -24,7 +25,8 @@ past rs at = foldl (λ (at : ℕ) (r : TlsRawRecord). r .next) at rs
 
 abbrev Inv-loop : tie.InvT-loop
 Inv-loop s records₀ messages₀ end₀ n m end =
-    (n ≤ end) × (m ≤ end) × (length (records s) ≡ n + length (left s end)) × (sum s (records s) ≡ m + sum s (left s end))
+    (n ≤ end) × (m ≤ end) × (length (records s) ≡ n + length (left s end))
+    × (sum s (records s) ≡ m + sum s (left s end))
     × (past (records s) 0 ≡ past (left s end) end)
 
 abbrev μ-loop : tie.MeasureT-loop
@@ -91,8 +93,14 @@ loop-again c =
     let i = from-lies _ _ e in
     let f = few-messages (now (l .before .before .args .s)) (c .before .before .r .given .0 .0) in
     let o = rest-on (by-records _) (l .loop .end) e in
-    let v = l .loop .inv in
-    (omega (arith, i, f), omega (arith, i, f, c .messages-in .ensures), v .2 ∙ rw o (omega arith), v .3 ∙ rw o (omega (arith, c .messages-in .ensures)), v .4 ∙ rw o)
+    let v = l .loop .inv in (
+      omega (arith, i, f),
+      omega (arith, i, f, c .messages-in .ensures),
+      v .2 ∙ rw o (omega arith),
+      v .3
+          ∙ rw o (omega (arith, c .messages-in .ensures)),
+      v .4 ∙ rw o,
+    )
 
 pub count-records-spec : {M : Type 1} → statement M
 count-records-spec =

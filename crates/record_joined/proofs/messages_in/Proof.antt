@@ -14,8 +14,10 @@ count-messages-requires c κs = search needs
 returns : tie.Need-returns
 unfolding messagesIn
 returns c =
-    let a = c .before .before .before .before .before .before .before .args in
-    rw (eq-eqb (a .r .hdr .«record_type») 0x16 (c .before .before .if1 .taken), ← (c .before .part-of .ensures)) (c .count-messages .ensures .0)
+    let early = c .before .before .before .before .before .before .before in
+    let a = early .args in
+    rw (eq-eqb (a .r .hdr .«record_type») 0x16 (c .before .before .if1 .taken), ← (c .before .part-of .ensures))
+    (c .count-messages .ensures .0)
 
 returns-2 : tie.Need-returns-2
 unfolding messagesIn

@@ -1,12 +1,14 @@
--- `record_joined::record_from` meets its contract: a record that was read at a place lies within the bytes from there on. Assumes nothing.
+-- `record_joined::record_from` meets its contract: a record that was read at a place lies within
+-- the bytes from there on. Assumes nothing.
+use Prim.Native.Nat.{_+_, _≤_}
 use native.Mathlib.Omega.{arith}
 use borrow.Author.Needs.{needs}
 use denote.Ref.{now}
-use lib.ListN.{length-drop, drop}
+use lib.ListN.{length, length-drop, drop}
 use Rattle.refusal.proofs.Told.{case}
 use Rattle.record.specs.Records.{rawSays}
 use Rattle.record_joined.specs.Joined.{recordFrom}
-use Rattle.record_joined.proofs.Captures.{raw-lies}
+use Rattle.record_joined.proofs.Joined.{raw-lies}
 use Rattle.record_joined.proofs.record_from.Statement.{statement}
 use Rattle.record_joined.proofs.record_from.Tie as tie
 
@@ -22,23 +24,22 @@ enum-known-r c = search needs
 enum-known-x : tie.Need-enum-known-x
 enum-known-x c = search needs
 
-add-t11 : tie.Need-add-t11
-add-t11 c =
-    let x = c .before .before .before .before in
-    let p = x .before .before in
+-- the place that was reached lies within the bytes
+reached : (c : tie.After-x)
+    → let a = c .before .before .before .before .before .args in let r =
+    c .x .given .0 .0 in (r .«data» .start ≤ r .next) × (a .at + r .next ≤ length (now (a .s)))
+reached c =
+    let p = c .before .before in
     let a = p .before .before .before .args in
-    let e = rw (p .before .rest-of .ensures) at (case rawSays (p .parse-tls-raw-record .ensures) (x .x .given .1)) in
+    let e = rw (p .before .rest-of .ensures) at (case rawSays (p .parse-tls-raw-record .ensures) (c .x .given .1)) in
     let i = raw-lies (drop (a .at) (now (a .s))) e in
-    omega (arith, i .past, i .holds, i .inside, length-drop (a .at) (now (a .s)))
+    (omega (arith, i .holds), omega (arith, i .past, i .inside, length-drop (a .at) (now (a .s))))
+
+add-t11 : tie.Need-add-t11
+add-t11 c = omega (arith, reached (c .before .before .before .before))
 
 add-t11-2 : tie.Need-add-t11-2
-add-t11-2 c =
-    let x = c .before .before .before .before .before in
-    let p = x .before .before in
-    let a = p .before .before .before .args in
-    let e = rw (p .before .rest-of .ensures) at (case rawSays (p .parse-tls-raw-record .ensures) (x .x .given .1)) in
-    let i = raw-lies (drop (a .at) (now (a .s))) e in
-    omega (arith, i .past, i .holds, i .inside, length-drop (a .at) (now (a .s)))
+add-t11-2 c = omega (arith, reached (c .before .before .before .before .before))
 
 returns : tie.Need-returns
 unfolding recordFrom

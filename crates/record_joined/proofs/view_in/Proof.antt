@@ -1,4 +1,5 @@
--- `record_joined::view_in` meets its contract: the tests that led to each `return` decide that of `viewIn`. Assumes nothing.
+-- `record_joined::view_in` meets its contract: the tests that led to each `return` decide that of
+-- `viewIn`. Assumes nothing.
 use Prim.Native.Nat.{_+_, _≤_}
 use mathlib.Core.Path.{ap}
 use native.Mathlib.Omega.{arith}
@@ -8,7 +9,7 @@ use denote.Ref.{now}
 use lib.ListN.{length}
 use Rattle.wire.specs.Parts.{partOf}
 use Rattle.record_joined.specs.Joined.{viewIn}
-use Rattle.record_joined.proofs.Captures.{place-below}
+use Rattle.record_joined.proofs.Joined.{place-below}
 use Rattle.record_joined.proofs.view_in.Statement.{statement}
 use Rattle.record_joined.proofs.view_in.Tie as tie
 
@@ -32,10 +33,16 @@ returns-2 c =
 
 add-t7 : tie.Need-add-t7
 add-t7 c =
-    let g = c .before .before .before .before .before .before .before in
+    let early = c .before .before .before .before .before .before .before in
+    let g = early in
     let a = g .before .before .args in
-    let h : a .inner .start ≤ length (partOf (now (a .s)) (a .outer)) = omega (arith, ap length (g .part-of .ensures)) in
-    omega (arith, place-below (now (a .s)) (a .outer) (a .inner .start) 18446744073709551616 h (omega arith) (omega arith))
+    let h : a .inner .start ≤ length (partOf (now (a .s)) (a .outer)) =
+    omega (arith, ap length (g .part-of .ensures)) in
+    omega (
+      arith,
+      place-below (now
+          (a .s)) (a .outer) (a .inner .start) 18446744073709551616 h (omega arith) (omega arith),
+    )
 
 returns-3 : tie.Need-returns-3
 unfolding viewIn

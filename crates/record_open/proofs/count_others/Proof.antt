@@ -1,4 +1,5 @@
--- `record_open::count_others` meets its contract: the messages from a place within the content on end within it. Assumes nothing.
+-- `record_open::count_others` meets its contract: the messages from a place within the content on
+-- end within it. Assumes nothing.
 use native.Mathlib.Omega.{arith}
 use denote.Ref.{now}
 use Rattle.record_walk.proofs.Walking.{from-inside}
@@ -30,7 +31,12 @@ unfolding plainRecord
 returns c =
     let k = c .before .before in
     let a = k .before .before .before .before in
-    rw (first-vector _ (a .pre), first-dropped _ (a .pre), k .count-messages .ensures .0, k .count-messages .ensures .1 .0)
+    rw (
+      first-vector _ (a .pre),
+      first-dropped _ (a .pre),
+      k .count-messages .ensures .0,
+      k .count-messages .ensures .1 .0,
+    )
 
 pub count-others-spec : {M : Type 1} → statement M
 count-others-spec = tie.close (tie.spec count-messages-requires add-t7 sub-t9 returns)

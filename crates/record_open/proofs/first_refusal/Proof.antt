@@ -11,13 +11,15 @@ refuse-requires : tie.Need-refuse-requires
 refuse-requires c κs = search needs
 
 returns : tie.Need-returns
-returns c = rw (eq-eqb _ _ (rw (c .before .before .refusal-number .ensures) at (c .before .if1 .taken))) (c .refuse .ensures)
+returns c =
+    rw (eq-eqb _ _ (rw (c .before .before .refusal-number .ensures) at (c .before .if1 .taken))) (c .refuse .ensures)
 
 inside-requires : tie.Need-inside-requires
 inside-requires c κs = search needs
 
 returns-2 : tie.Need-returns-2
-returns-2 c = rw (ne-eqb _ _ (rw (c .before .before .refusal-number .ensures) at (c .before .if1 .left))) (c .inside .ensures)
+returns-2 c =
+    rw (ne-eqb _ _ (rw (c .before .before .refusal-number .ensures) at (c .before .if1 .left))) (c .inside .ensures)
 
 pub first-refusal-spec : {M : Type 1} → statement M
 first-refusal-spec =

@@ -1,4 +1,5 @@
--- `record_open::open_first` meets its contract: no head, no body, or the first message is met. Assumes nothing.
+-- `record_open::open_first` meets its contract: no head, no body, or the first message is met.
+-- Assumes nothing.
 use mathlib.Core.Path.{ap}
 use Rattle.refusal.specs.Answers.{refused}
 use Rattle.refusal.proofs.Told.{case}
@@ -51,7 +52,9 @@ count-others-requires : tie.Need-count-others-requires
 count-others-requires c κs =
     let f = c .before .before .before in
     let g = f .before .before .before .before in
-    let e = met-got _ _ (case headSays (g .before .before .parse-tls-message-head .ensures) (g .h .given .1)) (case messageSays (rw (f .before .part-of .ensures) at (f .parse-tls-handshake-body .ensures)) (c .before .message .given .1)) in
+    let e = met-got _ _ (case headSays (g .before .before .parse-tls-message-head .ensures) (g .h .given .1))
+    (case messageSays (rw (f .before .part-of .ensures) at (f .parse-tls-handshake-body .ensures))
+    (c .before .message .given .1)) in
     rw e
 
 returns-2 : tie.Need-returns-2
@@ -59,7 +62,9 @@ unfolding handshakes
 returns-2 c =
     let f = c .before .before .before .before .before in
     let g = f .before .before .before .before in
-    let e = met-no-body _ _ (case headSays (g .before .before .parse-tls-message-head .ensures) (g .h .given .1)) (case messageSays (rw (f .before .part-of .ensures) at (f .parse-tls-handshake-body .ensures)) (c .before .before .before .r2 .given .1)) in
+    let e = met-no-body _ _ (case headSays (g .before .before .parse-tls-message-head .ensures) (g .h .given .1))
+    (case messageSays (rw (f .before .part-of .ensures) at (f .parse-tls-handshake-body .ensures))
+    (c .before .before .before .r2 .given .1)) in
     rw (e, ← (c .before .inside .ensures)) (ap refused (c .first-refusal2 .ensures))
 
 returns-3 : tie.Need-returns-3
@@ -67,7 +72,9 @@ unfolding handshakes
 returns-3 c =
     let f = c .before .before .before .before in
     let g = f .before .before .before .before in
-    let e = met-got _ _ (case headSays (g .before .before .parse-tls-message-head .ensures) (g .h .given .1)) (case messageSays (rw (f .before .part-of .ensures) at (f .parse-tls-handshake-body .ensures)) (c .before .before .message .given .1)) in
+    let e = met-got _ _ (case headSays (g .before .before .parse-tls-message-head .ensures) (g .h .given .1))
+    (case messageSays (rw (f .before .part-of .ensures) at (f .parse-tls-handshake-body .ensures))
+    (c .before .before .message .given .1)) in
     rw (e, c .count-others .ensures)
 
 pub open-first-spec : {M : Type 1} → statement M

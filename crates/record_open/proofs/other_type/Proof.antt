@@ -16,12 +16,14 @@ refuse-requires-2 c κs = search needs
 returns : tie.Need-returns
 returns c =
     let t = c .before .before .before .args .record-type in
-    rw (le-ltb t 0x14 (c .before .before .if1 .left), le-ltb 0x18 t (omega (arith, c .before .if2 .taken))) (c .refuse .ensures)
+    rw (le-ltb t 0x14 (c .before .before .if1 .left), le-ltb 0x18 t (omega (arith, c .before .if2 .taken)))
+    (c .refuse .ensures)
 
 returns-2 : tie.Need-returns-2
 returns-2 c =
     let t = c .before .before .args .record-type in
-    c .refuse2 .ensures ∙ sym (⊎-elim (λ w. rw (lt-ltb t 0x14 (w .taken))) (λ w. rw (le-ltb t 0x14 (w .0 .left), lt-ltb 0x18 t (w .1 .left))) (c .before .if1 .came))
+    c .refuse2 .ensures ∙ sym (⊎-elim (λ w. rw (lt-ltb t 0x14 (w .taken)))
+    (λ w. rw (le-ltb t 0x14 (w .0 .left), lt-ltb 0x18 t (w .1 .left))) (c .before .if1 .came))
 
 pub other-type-spec : {M : Type 1} → statement M
 other-type-spec = tie.close (tie.spec refuse-requires refuse-requires-2 returns returns-2)

@@ -1,4 +1,5 @@
--- `record_walk::count_messages` meets its contract: what was counted and what is left are all the messages. Assumes nothing.
+-- `record_walk::count_messages` meets its contract: what was counted and what is left are all the
+-- messages. Assumes nothing.
 use Prim.Native.Nat.{_+_, _-_, _≤_}
 use mathlib.Core.Path.{_≡_, sym, ap, _∙_}
 use native.Mathlib.Omega.{arith}
@@ -14,7 +15,8 @@ use Rattle.record_walk.proofs.count_messages.Statement.{statement}
 use Rattle.record_walk.proofs.count_messages.Tie as tie
 
 abbrev Inv-loop : tie.InvT-loop
-Inv-loop s from count₀ end₀ count end = (count ≤ end) × (length (messagesFrom s from) ≡ count + length (left s end)) × (pastAll (messagesFrom s from) from ≡ pastAll (left s end) end)
+Inv-loop s from count₀ end₀ count end = (count ≤ end) × (length (messagesFrom s from) ≡ count + length (left s end))
+    × (pastAll (messagesFrom s from) from ≡ pastAll (left s end) end)
 
 abbrev μ-loop : tie.MeasureT-loop
 μ-loop s from count₀ end₀ count end = length s - end
@@ -35,7 +37,8 @@ returns : tie.Need-returns Inv-loop μ-loop
 unfolding pastAll
 returns c =
     let l = c .before .before .before .before in
-    let e = head-not-met _ _ (case headSays (c .before .before .before .meet-tls-message .ensures) (c .before .stop .given .1)) in
+    let e = head-not-met _ _
+    (case headSays (c .before .before .before .meet-tls-message .ensures) (c .before .stop .given .1)) in
     let z = rest-end (by-messages _) (l .loop .end) e in
     (sym (l .loop .inv .1 ∙ rw z (omega arith)), (sym (l .loop .inv .2 ∙ rw z), e))
 
@@ -45,14 +48,16 @@ enum-known-h c = search needs
 add-count : tie.Need-add-count Inv-loop μ-loop
 add-count c =
     let l = c .before .before .before .before in
-    let m = head-met _ _ (case headSays (c .before .before .before .meet-tls-message .ensures) (c .before .h .given .1)) in
+    let m = head-met _ _
+    (case headSays (c .before .before .before .meet-tls-message .ensures) (c .before .h .given .1)) in
     let i = by-messages _ .on (l .loop .end) _ (m .1) in
     omega (arith, i, m .2)
 
 loop-less : tie.Need-loop-less Inv-loop μ-loop
 loop-less c =
     let l = c .before .before .before .before in
-    let m = head-met _ _ (case headSays (c .before .before .before .meet-tls-message .ensures) (c .before .h .given .1)) in
+    let m = head-met _ _
+    (case headSays (c .before .before .before .meet-tls-message .ensures) (c .before .h .given .1)) in
     let i = by-messages _ .on (l .loop .end) _ (m .1) in
     omega (arith, i, m .2)
 
@@ -60,9 +65,15 @@ loop-again : tie.Need-loop-again Inv-loop μ-loop
 unfolding pastAll
 loop-again c =
     let l = c .before .before .before .before in
-    let m = head-met _ _ (case headSays (c .before .before .before .meet-tls-message .ensures) (c .before .h .given .1)) in
-    let i = by-messages _ .on (l .loop .end) _ (m .1) in
-    (omega (arith, i, m .2), l .loop .inv .1 ∙ rw (rest-on (by-messages _) (l .loop .end) (m .1), m .2) (omega arith), l .loop .inv .2 ∙ rw (rest-on (by-messages _) (l .loop .end) (m .1), m .2))
+    let m = head-met _ _
+    (case headSays (c .before .before .before .meet-tls-message .ensures) (c .before .h .given .1)) in
+    let i = by-messages _ .on (l .loop .end) _ (m .1) in (
+      omega (arith, i, m .2),
+      l .loop .inv .1
+          ∙ rw (rest-on (by-messages _) (l .loop .end) (m .1), m .2) (omega arith),
+      l .loop .inv .2
+          ∙ rw (rest-on (by-messages _) (l .loop .end) (m .1), m .2),
+    )
 
 pub count-messages-spec : {M : Type 1} → statement M
 count-messages-spec =

@@ -18,7 +18,9 @@ enum-known-r c = search needs
 
 returns : tie.Need-returns
 unfolding metHead
-returns c = rw (met-no-head _ _ (case headSays (c .before .before .before .parse-tls-message-head .ensures) (c .before .r .given .1)))
+returns c =
+    rw (met-no-head _ _ (case headSays (c .before .before .before .parse-tls-message-head .ensures)
+    (c .before .r .given .1)))
 
 enum-known-h : tie.Need-enum-known-h
 enum-known-h c = search needs
@@ -53,14 +55,20 @@ unfolding metHead
 returns-3 c =
     let f = c .before .before .before .before in
     let g = f .before .before .before .before .before in
-    rw (met-no-body _ _ (case headSays (g .before .before .before .parse-tls-message-head .ensures) (g .before .h .given .1)) (case messageSays (rw (f .before .part-of .ensures) at (f .parse-tls-handshake-body .ensures)) (c .before .before .r2 .given .1))) (ap refused (c .inside .ensures))
+    rw (met-no-body _ _ (case headSays (g .before .before .before .parse-tls-message-head .ensures)
+    (g .before .h .given .1))
+    (case messageSays (rw (f .before .part-of .ensures) at (f .parse-tls-handshake-body .ensures))
+    (c .before .before .r2 .given .1))) (ap refused (c .inside .ensures))
 
 returns-4 : tie.Need-returns-4
 unfolding metHead
 returns-4 c =
     let f = c .before .before in
     let g = f .before .before .before .before .before in
-    rw (met-got _ _ (case headSays (g .before .before .before .parse-tls-message-head .ensures) (g .before .h .given .1)) (case messageSays (rw (f .before .part-of .ensures) at (f .parse-tls-handshake-body .ensures)) (c .enum-told .given .1)))
+    rw (met-got _ _ (case headSays (g .before .before .before .parse-tls-message-head .ensures)
+    (g .before .h .given .1))
+    (case messageSays (rw (f .before .part-of .ensures) at (f .parse-tls-handshake-body .ensures))
+    (c .enum-told .given .1)))
 
 pub meet-tls-message-spec : {M : Type 1} → statement M
 meet-tls-message-spec =

@@ -1,5 +1,5 @@
--- `record_walk::opens_any` meets its contract: of 0x00 and 0x05 no body is read, and the others' are handed out whole; of every other type the
--- body of no bytes is refused. Assumes nothing.
+-- `record_walk::opens_any` meets its contract: of 0x00 and 0x05 no body is read, and the others'
+-- are handed out whole; of every other type the body of no bytes is refused. Assumes nothing.
 use Prim.Native.Nat.{ℕ, zero, suc, _+_, _-_, _<_, _≤_}
 use mathlib.Core.Bool.{Bool, true, false}
 use mathlib.Core.Path.{_≡_, refl}
@@ -19,7 +19,7 @@ use Rattle.grammar.specs.Forms.{reading}
 use Rattle.read_certs.specs.Certs.{certificateRequest}
 use Rattle.read_others.specs.Body.{sessionTicket}
 use Rattle.message.specs.declared.handshake.TlsMessageHandshake.{TlsMessageHandshake}
-use Rattle.message.proofs.Lookup.{by-rows}
+use Rattle.message.proofs.Lookup.{_&_, by-rows}
 use Rattle.open_hellos.specs.HelloMessages.{serverMessage}
 use Rattle.open_whole.specs.Whole.{wholeBody}
 use Rattle.envelope.specs.Opening.{byType, openings, opened}
@@ -48,7 +48,8 @@ ranged (suc (suc (suc d))) h s = absurd (omega arith)
 abbrev Refuses : Answer TlsMessageHandshake → Type 0
 Refuses a = (r : Refusal) × (a ≡ refused r)
 
-module _ (k : ℕ) (lacks : (k ≡ 0x00) ⊎ ((k ≡ 0x05) ⊎ ((k ≡ 0x0c) ⊎ (k ≡ 0x14))) → ⊥) (outside : (k < 0x0e) ⊎ (0x10 < k)) where
+module _ (k : ℕ) (lacks : (k ≡ 0x00) ⊎ ((k ≡ 0x05) ⊎ ((k ≡ 0x0c) ⊎ (k ≡ 0x14))) → ⊥)
+    (outside : (k < 0x0e) ⊎ (0x10 < k)) where
   not-ranged : {j : ℕ} → k ≡ j → 0x0e ≤ j → j ≤ 0x10 → ⊥
   not-ranged {j} q l h = go outside
     where
@@ -60,55 +61,24 @@ module _ (k : ℕ) (lacks : (k ≡ 0x00) ⊎ ((k ≡ 0x05) ⊎ ((k ≡ 0x0c) ⊎
   empty-refused : Refuses (byType k [])
   unfolding byType opened serverMessage wholeBody sessionTicket certificateRequest reading read fieldsAt step numberAt partAt
   empty-refused =
-      by-rows (λ o. Refuses (ifSome o (λ a. a) (refused (unplaced Switch)))) k (openings 0 []) (
-        λ q. absurd (lacks (inl q)),
-        (
-          λ q. (_, refl),
-          (
-            λ q. (_, refl),
-            (
-              λ q. (_, refl),
-              (
-                λ q. absurd (lacks (inr (inl q))),
-                (
-                  λ q. (_, refl),
-                  (
-                    λ q. (_, refl),
-                    (
-                      λ q. absurd (lacks (inr (inr (inl q)))),
-                      (
-                        λ q. (_, refl),
-                        (
-                          λ q. absurd (not-ranged q (omega arith) (omega arith)),
-                          (
-                            λ q. absurd (not-ranged q (omega arith) (omega arith)),
-                            (
-                              λ q. absurd (not-ranged q (omega arith) (omega arith)),
-                              (
-                                λ q. absurd (lacks (inr (inr (inr q)))),
-                                (
-                                  λ q. (_, refl),
-                                  (
-                                    λ q. (_, refl),
-                                    (
-                                      λ q. (_, refl),
-                                      tt,
-                                    ),
-                                  ),
-                                ),
-                              ),
-                            ),
-                          ),
-                        ),
-                      ),
-                    ),
-                  ),
-                ),
-              ),
-            ),
-          ),
-        ),
-      )
+      by-rows (λ o. Refuses (ifSome o (λ a. a) (refused (unplaced Switch)))) k (openings 0 [])
+      ((λ q. absurd (lacks (inl q)))
+      & (λ q. (_, refl))
+      & (λ q. (_, refl))
+      & (λ q. (_, refl))
+      & (λ q. absurd (lacks (inr (inl q))))
+      & (λ q. (_, refl))
+      & (λ q. (_, refl))
+      & (λ q. absurd (lacks (inr (inr (inl q)))))
+      & (λ q. (_, refl))
+      & (λ q. absurd (not-ranged q (omega arith) (omega arith)))
+      & (λ q. absurd (not-ranged q (omega arith) (omega arith)))
+      & (λ q. absurd (not-ranged q (omega arith) (omega arith)))
+      & (λ q. absurd (lacks (inr (inr (inr q)))))
+      & (λ q. (_, refl))
+      & (λ q. (_, refl))
+      & (λ q. (_, refl))
+      & tt)
       (_, refl)
 
   shut : OpensAny k → ⊥

@@ -28,11 +28,18 @@ may : (s : tie.Start) → Obeyed client (now (s .args .i)) (s .args .m)
 may s = obeyed client (now (s .args .i)) (s .args .m) (s .pre)
 
 -- and are not long
-bounds : (c : tie.After-ext) → (length (now (c .before .before .before .session-id .result)) ≤ 32) × (length (now (c .before .before .part-of .result)) ≤ 65534) × (length (now (c .before .part-of2 .result)) ≤ 255) × (length (now (c .ext .result)) ≤ 65535)
+bounds : (c : tie.After-ext) → (length (now (c .before .before .before .session-id .result)) ≤ 32)
+    × (length (now (c .before .before .part-of .result)) ≤ 65534) × (length (now (c .before .part-of2 .result)) ≤ 255)
+    × (length (now (c .ext .result)) ≤ 65535)
 bounds c =
     let s = c .before .before .before .before .before in
     let b = client-bounds (now (s .args .i)) (s .args .m) (may s) in
-    rw (c .ext .ensures, c .before .part-of2 .ensures, c .before .before .part-of .ensures, c .before .before .before .session-id .ensures) (b .id, b .ciphers, b .comp, b .ext)
+    rw (
+      c .ext .ensures,
+      c .before .part-of2 .ensures,
+      c .before .before .part-of .ensures,
+      c .before .before .before .session-id .ensures,
+    ) (b .id, b .ciphers, b .comp, b .ext)
 
 add-result : tie.Need-add-result
 add-result c = search needs
@@ -50,7 +57,13 @@ returns : tie.Need-returns
 returns c =
     let s = c .before .before .before .before .before in
     let l = client-length (now (s .args .i)) (s .args .m) (may s) in
-    rw (c .ext .ensures, c .before .part-of2 .ensures, c .before .before .part-of .ensures, c .before .before .before .session-id .ensures) (sym l, omega (arith, client-bounds (now (s .args .i)) (s .args .m) (may s)))
+    rw (
+      c .ext .ensures,
+      c .before .part-of2 .ensures,
+      c .before .before .part-of .ensures,
+      c .before .before .before .session-id .ensures,
+    )
+    (sym l, omega (arith, client-bounds (now (s .args .i)) (s .args .m) (may s)))
 
 pub fields-len-spec : {M : Type 1} → statement M
 fields-len-spec =

@@ -1,4 +1,5 @@
--- `write_client::put_fields` meets its contract: the fields are put in one behind the other. Assumes nothing.
+-- `write_client::put_fields` meets its contract: the fields are put in one behind the other.
+-- Assumes nothing.
 use Prim.Native.Nat.{_≤_}
 use native.Mathlib.Omega.{arith}
 use lib.ListN.{length}
@@ -31,11 +32,17 @@ may : (s : tie.Start) → Obeyed client (now (s .args .i)) (s .args .m)
 may s = obeyed client (now (s .args .i)) (s .args .m) (s .pre .0)
 
 -- and are not long
-bounds : (c : tie.After-ext) → (length (now (c .before .before .before .session-id .result)) ≤ 32) × (length (now (c .before .before .part-of .result)) ≤ 65534) × (length (now (c .before .part-of2 .result)) ≤ 255)
+bounds : (c : tie.After-ext) → (length (now (c .before .before .before .session-id .result)) ≤ 32)
+    × (length (now (c .before .before .part-of .result)) ≤ 65534) × (length (now (c .before .part-of2 .result)) ≤ 255)
 bounds c =
-    let s = c .before .before .before .before .before .before .before in
+    let early = c .before .before .before .before .before .before .before in
+    let s = early in
     let b = client-bounds (now (s .args .i)) (s .args .m) (may s) in
-    rw (c .before .part-of2 .ensures, c .before .before .part-of .ensures, c .before .before .before .session-id .ensures) (b .id, b .ciphers, b .comp)
+    rw (
+      c .before .part-of2 .ensures,
+      c .before .before .part-of .ensures,
+      c .before .before .before .session-id .ensures,
+    ) (b .id, b .ciphers, b .comp)
 
 add-past-id : tie.Need-add-past-id
 add-past-id c = search needs
@@ -87,7 +94,8 @@ returns c =
     let p = w₁ .before .before .before in
     let s = p .before .before .before .before .before .before .before in
     let m = s .args .m in
-    client-put (now (s .args .out)) (now (s .args .i)) m _ _ _ _ _ _ _ _ _ (may s) (s .pre .1) (omega (arith, w₁ .before .struct-known .given))
+    client-put (now (s .args .out)) (now (s .args .i)) m _ _ _ _ _ _ _ _ _ (may s) (s .pre .1)
+    (omega (arith, w₁ .before .struct-known .given))
     (w₁ .gen-be .ensures .1)
     (rw (p .before .before .before .before .random .ensures) at (w₂ .gen-bytes .ensures .1))
     (rw (p .before .before .before .session-id .ensures) at (w₃ .gen-length-data .ensures .1))

@@ -1,4 +1,5 @@
--- `write_client::writable` meets its contract: the first part that may not be written decides. Assumes nothing.
+-- `write_client::writable` meets its contract: the first part that may not be written decides.
+-- Assumes nothing.
 use Prim.Native.Nat.{ℕ}
 use denote.Ref.{now}
 use Rattle.read_client.specs.Client.{client}
@@ -48,7 +49,9 @@ opt-part-may-requires-2 : tie.Need-opt-part-may-requires-2
 opt-part-may-requires-2 c κs = search needs
 
 returns-5 : tie.Need-returns-5
-returns-5 c = end (and (past-ciphers (c .before .before .before)) (c .before .before .part-may2 .ensures) (c .before .if4 .left)) (c .opt-part-may2 .ensures)
+returns-5 c =
+    end (and (past-ciphers (c .before .before .before)) (c .before .before .part-may2 .ensures)
+    (c .before .if4 .left)) (c .opt-part-may2 .ensures)
 
 pub writable-spec : {M : Type 1} → statement M
 writable-spec =

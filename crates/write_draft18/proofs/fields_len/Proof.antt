@@ -19,7 +19,10 @@ returns : tie.Need-returns
 returns c =
     let s = c .before .before in
     let may = obeyed draft18 (now (s .args .i)) (s .args .m) (s .pre) in
-    rw (c .ext .ensures) (sym (draft18-length (now (s .args .i)) (s .args .m) may), omega (arith, draft18-bounds (now (s .args .i)) (s .args .m) may))
+    rw (c .ext .ensures) (
+      sym (draft18-length (now (s .args .i)) (s .args .m) may),
+      omega (arith, draft18-bounds (now (s .args .i)) (s .args .m) may),
+    )
 
 pub fields-len-spec : {M : Type 1} → statement M
 fields-len-spec = tie.close (tie.spec ext-requires add-result returns)

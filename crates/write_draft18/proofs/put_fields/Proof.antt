@@ -1,4 +1,5 @@
--- `write_draft18::put_fields` meets its contract: the fields are put in one behind the other. Assumes nothing.
+-- `write_draft18::put_fields` meets its contract: the fields are put in one behind the other.
+-- Assumes nothing.
 use native.Mathlib.Omega.{arith}
 use denote.Ref.{now}
 use Rattle.read_server.specs.Server.{draft18}
@@ -44,7 +45,8 @@ returns c =
     let p = w₁ .before .before .before in
     let s = p .before .before .before .before in
     let m = s .args .m in
-    draft18-put (now (s .args .out)) (now (s .args .i)) m _ _ _ _ (obeyed draft18 (now (s .args .i)) m (s .pre .0)) (s .pre .1) (omega (arith, w₁ .before .struct-known .given)) (omega (arith, w₃ .before .struct-known2 .given))
+    draft18-put (now (s .args .out)) (now (s .args .i)) m _ _ _ _ (obeyed draft18 (now (s .args .i)) m (s .pre .0))
+    (s .pre .1) (omega (arith, w₁ .before .struct-known .given)) (omega (arith, w₃ .before .struct-known2 .given))
     (w₁ .gen-be .ensures .1)
     (rw (p .before .random .ensures) at (w₂ .gen-bytes .ensures .1))
     (w₃ .gen-be2 .ensures .1)

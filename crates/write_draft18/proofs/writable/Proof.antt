@@ -1,4 +1,5 @@
--- `write_draft18::writable` meets its contract: the first part that may not be written decides. Assumes nothing.
+-- `write_draft18::writable` meets its contract: the first part that may not be written decides.
+-- Assumes nothing.
 use Rattle.read_server.specs.Server.{draft18}
 use Rattle.write_rules.proofs.Mays.{begin, and, stop, end}
 use borrow.Author.Needs.{needs}
@@ -15,7 +16,9 @@ opt-part-may-requires : tie.Need-opt-part-may-requires
 opt-part-may-requires c κs = search needs
 
 returns-2 : tie.Need-returns-2
-returns-2 c = end (and (begin draft18 _ _) (c .before .before .fixed-may .ensures) (c .before .if1 .left)) (c .opt-part-may .ensures)
+returns-2 c =
+    end (and (begin draft18 _ _) (c .before .before .fixed-may .ensures) (c .before .if1 .left))
+    (c .opt-part-may .ensures)
 
 pub writable-spec : {M : Type 1} → statement M
 writable-spec =

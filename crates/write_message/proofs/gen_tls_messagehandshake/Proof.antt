@@ -1,4 +1,5 @@
--- `write_message::gen_tls_messagehandshake` meets its contract, by that of the writer of each kind. Assumes nothing.
+-- `write_message::gen_tls_messagehandshake` meets its contract, by that of the writer of each kind.
+-- Assumes nothing.
 use mathlib.Core.Path.{ap, sym, _∙_}
 use denote.Ref.{now}
 use Rattle.refusal.specs.Answers.{refused}
@@ -53,42 +54,49 @@ same-length c = search needs
 
 returns : tie.Need-returns
 unfolding handshakeText
-returns c = rw (c .before .before .before .before .enum-told .given .1) (c .before .before .gen-tls-hellorequest .ensures)
+returns c =
+    rw (c .before .before .before .before .enum-told .given .1) (c .before .before .gen-tls-hellorequest .ensures)
 
 same-length-2 : tie.Need-same-length-2
 same-length-2 c = search needs
 
 returns-2 : tie.Need-returns-2
 unfolding handshakeText
-returns-2 c = rw (c .before .before .before .before .before .m .given .1) (c .before .before .gen-tls-clienthello .ensures)
+returns-2 c =
+    rw (c .before .before .before .before .before .m .given .1) (c .before .before .gen-tls-clienthello .ensures)
 
 same-length-3 : tie.Need-same-length-3
 same-length-3 c = search needs
 
 returns-3 : tie.Need-returns-3
 unfolding handshakeText
-returns-3 c = rw (c .before .before .before .before .before .m2 .given .1) (c .before .before .gen-tls-serverhello .ensures)
+returns-3 c =
+    rw (c .before .before .before .before .before .m2 .given .1) (c .before .before .gen-tls-serverhello .ensures)
 
 same-length-4 : tie.Need-same-length-4
 same-length-4 c = search needs
 
 returns-4 : tie.Need-returns-4
 unfolding handshakeText
-returns-4 c = rw (c .before .before .before .before .before .m3 .given .1) (c .before .before .gen-tls-serverhellodraft18 .ensures)
+returns-4 c =
+    rw (c .before .before .before .before .before .m3 .given .1)
+    (c .before .before .gen-tls-serverhellodraft18 .ensures)
 
 same-length-5 : tie.Need-same-length-5
 same-length-5 c = search needs
 
 returns-5 : tie.Need-returns-5
 unfolding handshakeText
-returns-5 c = rw (c .before .before .before .before .before .m4 .given .1) (c .before .before .gen-tls-clientkeyexchange .ensures)
+returns-5 c =
+    rw (c .before .before .before .before .before .m4 .given .1) (c .before .before .gen-tls-clientkeyexchange .ensures)
 
 same-length-6 : tie.Need-same-length-6
 same-length-6 c = search needs
 
 returns-6 : tie.Need-returns-6
 unfolding handshakeText
-returns-6 c = rw (c .before .before .before .before .before .m5 .given .1) (c .before .before .gen-tls-finished .ensures)
+returns-6 c =
+    rw (c .before .before .before .before .before .m5 .given .1) (c .before .before .gen-tls-finished .ensures)
 
 returns-7 : tie.Need-returns-7
 returns-7 c =

@@ -1,5 +1,5 @@
--- `write_others::gen_sized` meets its contract: the part may not be written, or there is no room, or length and part and the head are put in.
--- Assumes nothing.
+-- `write_others::gen_sized` meets its contract: the part may not be written, or there is no room,
+-- or length and part and the head are put in. Assumes nothing.
 use Prim.Native.Nat.{_+_}
 use mathlib.Core.Path.{_≡_}
 use native.Mathlib.Omega.{arith}
@@ -24,7 +24,9 @@ unplaced-requires : tie.Need-unplaced-requires
 unplaced-requires c κs = search needs
 
 returns : tie.Need-returns
-returns c = ensured (sized-refused _ _ _ _ _ (c .before .before .part-may .ensures) (c .before .if1 .taken) (c .unplaced .ensures))
+returns c =
+    ensured (sized-refused _ _ _ _ _ (c .before .before .part-may .ensures) (c .before .if1 .taken)
+    (c .unplaced .ensures))
 
 part-of-requires : tie.Need-part-of-requires
 part-of-requires c κs = search needs
@@ -33,8 +35,17 @@ width-bytes-requires : tie.Need-width-bytes-requires
 width-bytes-requires c κs = search needs
 
 -- the part may be written
-message : (c : tie.After-width-bytes) → SizedMessage (c .before .before .before .before .before .before .args .msg-type) (now (c .before .before .before .before .before .before .args .i)) (c .before .before .before .before .before .before .args .v) (bytesIn (c .before .before .before .before .before .before .args .w)) (now (c .before .part-of .result)) (c .width-bytes .result + length (now (c .before .part-of .result)))
-message c = sized-message _ _ _ (c .before .before .before .part-may .ensures) (c .before .before .if1 .left) _ (c .before .part-of .ensures) _ (c .before .before .before .before .before .before .pre) _ (c .width-bytes .ensures)
+message : (c : tie.After-width-bytes)
+    → SizedMessage (c .before .before .before .before .before .before .args .msg-type)
+    (now (c .before .before .before .before .before .before .args .i))
+    (c .before .before .before .before .before .before .args .v)
+    (bytesIn (c .before .before .before .before .before .before .args .w))
+    (now (c .before .part-of .result))
+    (c .width-bytes .result + length (now (c .before .part-of .result)))
+message c =
+    let early = c .before .before .before .before .before .before in
+    sized-message _ _ _ (c .before .before .before .part-may .ensures) (c .before .before .if1 .left) _
+    (c .before .part-of .ensures) _ (early .pre) _ (c .width-bytes .ensures)
 
 add-n : tie.Need-add-n
 add-n c = search needs
@@ -52,7 +63,10 @@ enum-known-p : tie.Need-enum-known-p
 enum-known-p c = search needs
 
 -- there is room
-room : (c : tie.After-p) → roomAt (now (c .before .before .before .before .before .before .before .before .before .before .args .out)) 0 (4 + (c .before .before .before .before .width-bytes .result + length (now (c .before .before .before .before .before .part-of .result)))) ≡ accepted (c .p .given .0 .0)
+room : (c : tie.After-p)
+    → roomAt (now (c .before .before .before .before .before .before .before .before .before .before .args .out)) 0
+    (4 + (c .before .before .before .before .width-bytes .result + length
+    (now (c .before .before .before .before .before .part-of .result)))) ≡ accepted (c .p .given .0 .0)
 room c = case partSays (c .before .before .room-for .ensures) (c .p .given .1)
 
 sub-gen-length-data : tie.Need-sub-gen-length-data
@@ -76,7 +90,8 @@ same-length c = search needs
 returns-2 : tie.Need-returns-2
 returns-2 c =
     let t = c .before .before .before in
-    ensured (message-out _ (message (t .before .before) .message) (case partSays (t .room-for .ensures) (c .before .r .given .1)))
+    ensured (message-out _ (message (t .before .before) .message)
+    (case partSays (t .room-for .ensures) (c .before .r .given .1)))
 
 same-length-2 : tie.Need-same-length-2
 same-length-2 c = search needs

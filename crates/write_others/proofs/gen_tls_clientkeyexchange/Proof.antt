@@ -1,4 +1,5 @@
--- `write_others::gen_tls_clientkeyexchange` meets its contract, by that of the function for each of its three cases. Assumes nothing.
+-- `write_others::gen_tls_clientkeyexchange` meets its contract, by that of the function for each of
+-- its three cases. Assumes nothing.
 use borrow.Author.Needs.{needs}
 use Rattle.write_others.proofs.gen_tls_clientkeyexchange.Statement.{statement}
 use Rattle.write_others.proofs.gen_tls_clientkeyexchange.Tie as tie

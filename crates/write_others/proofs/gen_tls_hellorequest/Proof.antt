@@ -1,4 +1,5 @@
--- `write_others::gen_tls_hellorequest` meets its contract: the message is its head. Assumes nothing.
+-- `write_others::gen_tls_hellorequest` meets its contract: the message is its head. Assumes
+-- nothing.
 use Rattle.write_others.proofs.Parts.{empty}
 use borrow.Author.Needs.{needs}
 use Rattle.write_others.proofs.gen_tls_hellorequest.Statement.{statement}

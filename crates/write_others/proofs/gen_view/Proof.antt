@@ -1,4 +1,5 @@
--- `write_others::gen_view` meets its contract: the part may not be written, or there is no room, or part and head are put in. Assumes nothing.
+-- `write_others::gen_view` meets its contract: the part may not be written, or there is no room, or
+-- part and head are put in. Assumes nothing.
 use Prim.Native.Nat.{_+_}
 use mathlib.Core.Path.{_≡_, refl}
 use native.Mathlib.Omega.{arith}
@@ -23,13 +24,18 @@ unplaced-requires : tie.Need-unplaced-requires
 unplaced-requires c κs = search needs
 
 returns : tie.Need-returns
-returns c = ensured (view-refused _ _ _ _ (c .before .before .part-may .ensures) (c .before .if1 .taken) (c .unplaced .ensures))
+returns c =
+    ensured (view-refused _ _ _ _ (c .before .before .part-may .ensures) (c .before .if1 .taken) (c .unplaced .ensures))
 
 part-of-requires : tie.Need-part-of-requires
 part-of-requires c κs = search needs
 
 -- the part may be written
-message : (c : tie.After-part-of) → Message (headText (c .before .before .before .before .before .args .msg-type)) 4 (viewText (now (c .before .before .before .before .before .args .i)) (c .before .before .before .before .before .args .v)) (now (c .part-of .result)) (length (now (c .part-of .result)))
+message : (c : tie.After-part-of)
+    → Message (headText (c .before .before .before .before .before .args .msg-type)) 4
+    (viewText (now (c .before .before .before .before .before .args .i))
+    (c .before .before .before .before .before .args .v)) (now (c .part-of .result))
+    (length (now (c .part-of .result)))
 message c = view-message _ _ _ (c .before .before .part-may .ensures) (c .before .if1 .left) _ (c .part-of .ensures)
 
 add-room-for : tie.Need-add-room-for
@@ -45,7 +51,9 @@ enum-known-p : tie.Need-enum-known-p
 enum-known-p c = search needs
 
 -- there is room
-room : (c : tie.After-p) → roomAt (now (c .before .before .before .before .before .before .before .before .before .args .out)) 0 (4 + length (now (c .before .before .before .before .part-of .result))) ≡ accepted (c .p .given .0 .0)
+room : (c : tie.After-p)
+    → roomAt (now (c .before .before .before .before .before .before .before .before .before .args .out)) 0
+    (4 + length (now (c .before .before .before .before .part-of .result))) ≡ accepted (c .p .given .0 .0)
 room c = case partSays (c .before .before .room-for .ensures) (c .p .given .1)
 
 sub-gen-bytes : tie.Need-sub-gen-bytes
@@ -69,7 +77,8 @@ same-length c = search needs
 returns-2 : tie.Need-returns-2
 returns-2 c =
     let t = c .before .before .before in
-    ensured (message-out _ (message (t .before .before)) (case partSays (t .room-for .ensures) (c .before .r .given .1)))
+    ensured (message-out _ (message (t .before .before))
+    (case partSays (t .room-for .ensures) (c .before .r .given .1)))
 
 same-length-2 : tie.Need-same-length-2
 same-length-2 c = search needs
@@ -79,7 +88,8 @@ returns-3 c =
     let h = c .before .before in
     let y = h .before .before .before .before in
     let q = y .before .before .before in
-    ensured (message-by _ (message (q .before .before .before .before)) _ _ refl (room q) (y .gen-bytes .ensures .1) (h .gen-head .ensures .1))
+    ensured (message-by _ (message (q .before .before .before .before)) _ _ refl (room q) (y .gen-bytes .ensures .1)
+    (h .gen-head .ensures .1))
 
 pub gen-view-spec : {M : Type 1} → statement M
 gen-view-spec =

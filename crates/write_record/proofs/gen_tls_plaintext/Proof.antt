@@ -1,5 +1,5 @@
--- `write_record::gen_tls_plaintext` meets its contract: the content is too large, or there is no room, or the record is put in. Assumes
--- nothing.
+-- `write_record::gen_tls_plaintext` meets its contract: the content is too large, or there is no
+-- room, or the record is put in. Assumes nothing.
 use mathlib.Core.Path.{ap, sym, _∙_}
 use native.Mathlib.Omega.{arith}
 use borrow.Author.Tests.{not-true, not-false}
@@ -59,7 +59,8 @@ returns-2 c =
     let k = c .before .before .before in
     let m = k .before .before .before in
     let a = m .before .before .before .args in
-    let o = record-out (a .hdr) _ _ (sym (m .may-follow .ensures) ∙ not-false _ (k .before .before .if1 .left)) (case partSays (k .room-for .ensures) (c .before .r .given .1)) in
+    let o = record-out (a .hdr) _ _ (sym (m .may-follow .ensures) ∙ not-false _ (k .before .before .if1 .left))
+    (case partSays (k .room-for .ensures) (c .before .r .given .1)) in
     (sym (o .says), sym (o .leaves))
 
 same-length-2 : tie.Need-same-length-2
@@ -74,8 +75,10 @@ returns-3 c =
     let k = p .before .before in
     let m = k .before .before .before in
     let a = m .before .before .before .args in
-    let o = record-in (a .hdr) _ _ (sym (m .may-follow .ensures) ∙ not-false _ (k .before .before .if1 .left)) _ _ _ (omega arith) (omega (arith, v .before .struct-known2 .given))
-    (case partSays (k .room-for .ensures) (p .p .given .1)) (t .gen-be .ensures .1) (v .gen-be2 .ensures .1) (l .gen-length-data .ensures .1) in
+    let o = record-in (a .hdr) _ _ (sym (m .may-follow .ensures) ∙ not-false _ (k .before .before .if1 .left)) _ _ _
+    (omega arith) (omega (arith, v .before .struct-known2 .given))
+    (case partSays (k .room-for .ensures) (p .p .given .1)) (t .gen-be .ensures .1) (v .gen-be2 .ensures .1)
+    (l .gen-length-data .ensures .1) in
     (sym (o .says), sym (o .leaves))
 
 pub gen-tls-plaintext-spec : {M : Type 1} → statement M

@@ -1,4 +1,5 @@
--- `write_rules::fixed_may` meets its contract: the view lies outside, or its length decides. Assumes nothing.
+-- `write_rules::fixed_may` meets its contract: the view lies outside, or its length decides.
+-- Assumes nothing.
 use mathlib.Core.Path.{sym, _∙_}
 use denote.Ref.{now}
 use Rattle.field.specs.Fields.{fixed}

@@ -1,4 +1,5 @@
--- `write_rules::gen_head` meets its contract: the length is too large, or there is no room, or type and length are put in. Assumes nothing.
+-- `write_rules::gen_head` meets its contract: the length is too large, or there is no room, or type
+-- and length are put in. Assumes nothing.
 use mathlib.Core.Path.{sym, _∙_}
 use native.Mathlib.Omega.{arith}
 use Rattle.refusal.proofs.Told.{case}
@@ -36,7 +37,8 @@ returns : tie.Need-returns
 returns c =
     let k = c .before .before .before in
     let w = k .before .before .before in
-    ensured (head-out _ _ _ (sym (w .width-holds .ensures) ∙ k .before .before .if1 .taken) (case partSays (k .room-for .ensures) (c .before .r .given .1)))
+    ensured (head-out _ _ _ (sym (w .width-holds .ensures) ∙ k .before .before .if1 .taken)
+    (case partSays (k .room-for .ensures) (c .before .r .given .1)))
 
 same-length-2 : tie.Need-same-length-2
 same-length-2 c = search needs
@@ -48,11 +50,13 @@ returns-2 c =
     let p = a .before .before .before in
     let k = p .before .before in
     let w = k .before .before .before in
-    ensured (head-in _ _ _ (sym (w .width-holds .ensures) ∙ k .before .before .if1 .taken) _ _ (omega arith) (case partSays (k .room-for .ensures) (p .p .given .1)) (a .gen-be .ensures .1) (b .gen-be2 .ensures .1))
+    ensured (head-in _ _ _ (sym (w .width-holds .ensures) ∙ k .before .before .if1 .taken) _ _ (omega arith)
+    (case partSays (k .room-for .ensures) (p .p .given .1)) (a .gen-be .ensures .1) (b .gen-be2 .ensures .1))
 
 returns-3 : tie.Need-returns-3
 returns-3 c =
-    ensured (head-not _ _ _ (sym (c .before .before .width-holds .ensures) ∙ c .before .if1 .left) (c .unplaced .ensures))
+    ensured (head-not _ _ _ (sym (c .before .before .width-holds .ensures) ∙ c .before .if1 .left)
+    (c .unplaced .ensures))
 
 pub gen-head-spec : {M : Type 1} → statement M
 gen-head-spec =

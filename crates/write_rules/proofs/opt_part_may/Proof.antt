@@ -1,4 +1,5 @@
--- `write_rules::opt_part_may` meets its contract, by that of `part_may`; an absent part has no bytes. Assumes nothing.
+-- `write_rules::opt_part_may` meets its contract, by that of `part_may`; an absent part has no
+-- bytes. Assumes nothing.
 use borrow.Author.Needs.{needs}
 use Rattle.write_rules.proofs.opt_part_may.Statement.{statement}
 use Rattle.write_rules.proofs.opt_part_may.Tie as tie

@@ -23,7 +23,8 @@ may : (s : tie.Start) → Obeyed (server true) (now (s .args .i)) (s .args .m)
 may s = obeyed (server true) (now (s .args .i)) (s .args .m) (s .pre)
 
 -- and are not long
-bounds : (c : tie.After-ext) → (length (now (c .before .session-id .result)) ≤ 32) × (length (now (c .ext .result)) ≤ 65535)
+bounds : (c : tie.After-ext) → (length (now (c .before .session-id .result)) ≤ 32)
+    × (length (now (c .ext .result)) ≤ 65535)
 bounds c =
     let s = c .before .before .before in
     let b = server-bounds (now (s .args .i)) (s .args .m) (may s) in
@@ -39,7 +40,8 @@ returns : tie.Need-returns
 returns c =
     let s = c .before .before .before in
     let l = server-length (now (s .args .i)) (s .args .m) (may s) in
-    rw (c .ext .ensures, c .before .session-id .ensures) (sym l, omega (arith, server-bounds (now (s .args .i)) (s .args .m) (may s)))
+    rw (c .ext .ensures, c .before .session-id .ensures)
+    (sym l, omega (arith, server-bounds (now (s .args .i)) (s .args .m) (may s)))
 
 pub fields-len-spec : {M : Type 1} → statement M
 fields-len-spec =

@@ -1,4 +1,5 @@
--- `write_server::put_fields` meets its contract: the fields are put in one behind the other. Assumes nothing.
+-- `write_server::put_fields` meets its contract: the fields are put in one behind the other.
+-- Assumes nothing.
 use mathlib.Core.Bool.{true}
 use mathlib.Core.Path.{_∙_}
 use native.Mathlib.Omega.{arith}
@@ -63,7 +64,8 @@ same-length c =
     let w₃ = w₄ .before .before .before .before .before in
     let w₂ = w₃ .before .before .before .before in
     let w₁ = w₂ .before .before .before .before in
-    w₆ .gen-length-data2 .kept .0 ∙ w₅ .gen-be3 .kept .0 ∙ w₄ .gen-be2 .kept .0 ∙ w₃ .gen-length-data .kept .0 ∙ w₂ .gen-bytes .kept .0 ∙ w₁ .gen-be .kept .0
+    w₆ .gen-length-data2 .kept .0 ∙ w₅ .gen-be3 .kept .0 ∙ w₄ .gen-be2 .kept .0 ∙ w₃ .gen-length-data .kept .0
+    ∙ w₂ .gen-bytes .kept .0 ∙ w₁ .gen-be .kept .0
 
 returns : tie.Need-returns
 returns c =
@@ -76,8 +78,10 @@ returns c =
     let p = w₁ .before .before .before in
     let s = p .before .before .before .before .before in
     let m = s .args .m in
-    server-put (now (s .args .out)) (now (s .args .i)) m _ _ _ _ _ _ _ (obeyed (server true) (now (s .args .i)) m (s .pre .0)) (s .pre .1)
-    (omega (arith, w₁ .before .struct-known .given)) (omega (arith, w₄ .before .struct-known2 .given)) (omega (arith, w₅ .before .struct-known3 .given))
+    server-put (now (s .args .out)) (now (s .args .i)) m _ _ _ _ _ _ _
+    (obeyed (server true) (now (s .args .i)) m (s .pre .0)) (s .pre .1)
+    (omega (arith, w₁ .before .struct-known .given)) (omega (arith, w₄ .before .struct-known2 .given))
+    (omega (arith, w₅ .before .struct-known3 .given))
     (w₁ .gen-be .ensures .1)
     (rw (p .before .before .random .ensures) at (w₂ .gen-bytes .ensures .1))
     (rw (p .before .session-id .ensures) at (w₃ .gen-length-data .ensures .1))

@@ -1,4 +1,5 @@
--- `write_server::writable` meets its contract: the first part that may not be written decides. Assumes nothing.
+-- `write_server::writable` meets its contract: the first part that may not be written decides.
+-- Assumes nothing.
 use mathlib.Core.Bool.{true}
 use denote.Ref.{now}
 use Rattle.read_server.specs.Server.{server}
@@ -8,7 +9,8 @@ use Rattle.write_server.proofs.writable.Statement.{statement}
 use Rattle.write_server.proofs.writable.Tie as tie
 
 -- the random may stand
-past-random : (c : tie.Else1) → Past 1 (server true) (now (c .before .before .before .args .i)) (c .before .before .before .args .m)
+past-random : (c : tie.Else1)
+    → Past 1 (server true) (now (c .before .before .before .args .i)) (c .before .before .before .args .m)
 past-random c = and (begin (server true) _ _) (c .before .fixed-may .ensures) (c .if1 .left)
 
 fixed-may-requires : tie.Need-fixed-may-requires
@@ -27,7 +29,9 @@ opt-part-may-requires-2 : tie.Need-opt-part-may-requires-2
 opt-part-may-requires-2 c κs = search needs
 
 returns-3 : tie.Need-returns-3
-returns-3 c = end (and (past-random (c .before .before .before)) (c .before .before .opt-part-may .ensures) (c .before .if2 .left)) (c .opt-part-may2 .ensures)
+returns-3 c =
+    end (and (past-random (c .before .before .before)) (c .before .before .opt-part-may .ensures)
+    (c .before .if2 .left)) (c .opt-part-may2 .ensures)
 
 pub writable-spec : {M : Type 1} → statement M
 writable-spec =

@@ -1,4 +1,5 @@
--- `check_edges::writers::client` is safe: the room that is lent is within the output. Assumes nothing.
+-- `check_edges::writers::client` is safe: the room that is lent is within the output. Assumes
+-- nothing.
 use mathlib.Core.Path.{sym}
 use lib.Seq.{length-take-le}
 use borrow.Author.Needs.{needs}

@@ -1,4 +1,5 @@
--- `check_edges::writers::plaintext` is safe: the fragment and the room are within the source and the output. Assumes nothing.
+-- `check_edges::writers::plaintext` is safe: the fragment and the room are within the source and
+-- the output. Assumes nothing.
 use mathlib.Core.Path.{sym}
 use lib.Seq.{length-take-le}
 use native.Mathlib.Omega.{arith}

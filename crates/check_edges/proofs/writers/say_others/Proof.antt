@@ -1,4 +1,5 @@
--- `check_edges::writers::say_others` is safe and ends: no more bytes are counted than were passed. Assumes nothing.
+-- `check_edges::writers::say_others` is safe and ends: no more bytes are counted than were passed.
+-- Assumes nothing.
 use Prim.Native.Nat.{_-_, _≤_}
 use mathlib.Core.Logic.{⊎-elim}
 use native.Mathlib.Omega.{arith}

@@ -1,4 +1,5 @@
--- `check_rows::cert_rows::say_names` is safe and ends: each turn leaves one place less. Assumes nothing.
+-- `check_rows::cert_rows::say_names` is safe and ends: each turn leaves one place less. Assumes
+-- nothing.
 use Prim.Native.Nat.{_-_}
 use borrow.Author.Needs.{needs}
 use Rattle.check_rows.proofs.cert_rows.say_names.Statement.{statement}

@@ -1,4 +1,5 @@
--- `check_rows::record_rows::say_walk` is safe and ends: each turn leaves one place less. Assumes nothing.
+-- `check_rows::record_rows::say_walk` is safe and ends: each turn leaves one place less. Assumes
+-- nothing.
 use Prim.Native.Nat.{_-_}
 use borrow.Author.Needs.{needs}
 use Rattle.check_rows.proofs.record_rows.say_walk.Statement.{statement}

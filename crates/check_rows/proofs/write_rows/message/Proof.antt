@@ -1,4 +1,5 @@
--- `check_rows::write_rows::message` is safe: the room that is lent is within the output. Assumes nothing.
+-- `check_rows::write_rows::message` is safe: the room that is lent is within the output. Assumes
+-- nothing.
 use mathlib.Core.Path.{sym}
 use lib.Seq.{length-take-le}
 use borrow.Author.Needs.{needs}

@@ -1,4 +1,5 @@
--- `check_rows::write_rows::say_written` is safe: what is shown is within the output. Assumes nothing.
+-- `check_rows::write_rows::say_written` is safe: what is shown is within the output. Assumes
+-- nothing.
 use mathlib.Core.Path.{sym}
 use lib.Seq.{length-take-le}
 use borrow.Author.Needs.{needs}

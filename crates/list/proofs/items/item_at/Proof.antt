@@ -1,4 +1,5 @@
--- `list::items::item_at` meets its contract: after k turns the place asked for is k places nearer in what is left. Assumes nothing.
+-- `list::items::item_at` meets its contract: after k turns the place asked for is k places nearer
+-- in what is left. Assumes nothing.
 use Prim.Native.Nat.{_-_, _≤_}
 use mathlib.Core.Path.{_≡_, sym, ap, _∙_}
 use native.Mathlib.Omega.{arith}
@@ -17,7 +18,8 @@ use Rattle.list.proofs.items.item_at.Statement.{statement}
 use Rattle.list.proofs.items.item_at.Tie as tie
 
 abbrev Inv-loop : tie.InvT-loop
-Inv-loop s w at from₀ k₀ from k = (k ≤ at) × (place at (items (sized (bytesIn w)) s) ≡ place (at - k) (left (sized (bytesIn w)) s from))
+Inv-loop s w at from₀ k₀ from k = (k ≤ at)
+    × (place at (items (sized (bytesIn w)) s) ≡ place (at - k) (left (sized (bytesIn w)) s from))
 
 abbrev μ-loop : tie.MeasureT-loop
 μ-loop s w at from₀ k₀ from k = at - k
@@ -35,7 +37,8 @@ returns : tie.Need-returns Inv-loop μ-loop
 returns c =
     let l = c .before .before .before .before .before in
     let e = item-none _ _ _ (case partSays (c .before .before .before .item-from .ensures) (c .before .r .given .1)) in
-    ap refused (e .2) ∙ sym (l .loop .inv .1 ∙ past-last (by-steps _ (width-bounds (l .before .before .args .w) .0) _) (l .loop .from) _ (e .1))
+    ap refused (e .2) ∙ sym (l .loop .inv .1
+    ∙ past-last (by-steps _ (width-bounds (l .before .before .args .w) .0) _) (l .loop .from) _ (e .1))
 
 enum-known-p : tie.Need-enum-known-p Inv-loop μ-loop
 enum-known-p c = search needs
@@ -49,8 +52,12 @@ loop-less c = search needs
 loop-again : tie.Need-loop-again Inv-loop μ-loop
 loop-again c =
     let l = c .before .before .before .before .before in
-    let e = item-got _ _ _ (case partSays (c .before .before .before .item-from .ensures) (c .before .p .given .1)) in
-    (omega arith, l .loop .inv .1 ∙ next (by-steps _ (width-bounds (l .before .before .args .w) .0) _) (l .loop .from) _ (l .loop .k) (omega arith) e)
+    let e = item-got _ _ _ (case partSays (c .before .before .before .item-from .ensures) (c .before .p .given .1)) in (
+      omega arith,
+      l .loop .inv .1
+          ∙ next (by-steps _ (width-bounds (l .before .before .args .w) .0) _) (l .loop .from) _ (l .loop .k)
+          (omega arith) e,
+    )
 
 item-from-requires-2 : tie.Need-item-from-requires-2 Inv-loop μ-loop
 item-from-requires-2 c κs = search needs

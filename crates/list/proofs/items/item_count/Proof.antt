@@ -1,4 +1,5 @@
--- `list::items::item_count` meets its contract: what was counted and what is left are all the items. Assumes nothing.
+-- `list::items::item_count` meets its contract: what was counted and what is left are all the
+-- items. Assumes nothing.
 use Prim.Native.Nat.{_+_, _-_, _≤_}
 use mathlib.Core.Path.{_≡_, sym, ap, _∙_}
 use native.Mathlib.Omega.{arith}
@@ -18,13 +19,22 @@ use Rattle.list.proofs.items.item_count.Statement.{statement}
 use Rattle.list.proofs.items.item_count.Tie as tie
 
 abbrev Inv-loop : tie.InvT-loop
-Inv-loop s w at₀ count₀ at count = (count ≤ at) × (at ≤ length s) × (length (items (sized (bytesIn w)) s) ≡ count + length (left (sized (bytesIn w)) s at))
+Inv-loop s w at₀ count₀ at count = (count ≤ at) × (at ≤ length s)
+    × (length (items (sized (bytesIn w)) s) ≡ count + length (left (sized (bytesIn w)) s at))
 
 abbrev μ-loop : tie.MeasureT-loop
 μ-loop s w at₀ count₀ at count = length s - at
 
 loop-holds : tie.Need-loop-holds Inv-loop μ-loop
-loop-holds c = (omega arith, omega arith, omega (arith, ap length (rest-all (step (sized (bytesIn (c .before .args .w))) (c .before .args .s .now)) (λ (p : Part). p .next) (length (c .before .args .s .now)))))
+loop-holds c = (
+  omega arith,
+  omega arith,
+  omega (
+    arith,
+    ap length (rest-all (step (sized (bytesIn (c .before .args .w))) (c .before .args .s .now))
+        (λ (p : Part). p .next) (length (c .before .args .s .now))),
+  ),
+)
 
 item-from-requires : tie.Need-item-from-requires Inv-loop μ-loop
 item-from-requires c κs = search needs

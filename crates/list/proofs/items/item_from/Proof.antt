@@ -22,7 +22,9 @@ enum-known-p c = search needs
 
 returns : tie.Need-returns
 unfolding itemFrom
-returns c = rw (case partSays (c .before .before .before .length-data .ensures) (c .before .enum-told .given .1)) (ap refused (c .refuse .ensures))
+returns c =
+    rw (case partSays (c .before .before .before .length-data .ensures) (c .before .enum-told .given .1))
+    (ap refused (c .refuse .ensures))
 
 returns-2 : tie.Need-returns-2
 unfolding itemFrom

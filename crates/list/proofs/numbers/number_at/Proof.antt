@@ -1,4 +1,5 @@
--- `list::numbers::number_at` meets its contract: below the count the number stands at that many widths. Assumes nothing.
+-- `list::numbers::number_at` meets its contract: below the count the number stands at that many
+-- widths. Assumes nothing.
 use mathlib.Core.Path.{ap, sym, _∙_}
 use native.Mathlib.Omega.{arith}
 use Rattle.refusal.specs.Answers.{refused}
@@ -19,7 +20,9 @@ returns : tie.Need-returns
 returns c =
     let k = c .before .before in
     let a = k .before .before .args in
-    ap refused (c .refuse .ensures) ∙ sym (number-past (bytesIn (a .w)) (width-bounds (a .w) .0) (a .s .now) (a .at) (rw (k .number-count .ensures) at (c .before .if1 .taken)))
+    ap refused (c .refuse .ensures)
+    ∙ sym (number-past (bytesIn (a .w)) (width-bounds (a .w) .0) (a .s .now) (a .at)
+    (rw (k .number-count .ensures) at (c .before .if1 .taken)))
 
 width-bytes-requires : tie.Need-width-bytes-requires
 width-bytes-requires c κs = search needs
@@ -28,7 +31,8 @@ mul-parse-be : tie.Need-mul-parse-be
 mul-parse-be c =
     let k = c .before .before in
     let a = k .before .before .args in
-    let b = number-below (bytesIn (a .w)) (width-bounds (a .w) .0) (a .s .now) (a .at) (rw (k .number-count .ensures) at (c .before .if1 .left)) in
+    let b = number-below (bytesIn (a .w)) (width-bounds (a .w) .0) (a .s .now) (a .at)
+    (rw (k .number-count .ensures) at (c .before .if1 .left)) in
     rw (c .width-bytes .ensures) (record { fits = omega (arith, b .0) })
 
 parse-be-requires : tie.Need-parse-be-requires
@@ -38,7 +42,8 @@ returns-2 : tie.Need-returns-2
 returns-2 c =
     let k = c .before .before .before in
     let a = k .before .before .args in
-    let b = number-below (bytesIn (a .w)) (width-bounds (a .w) .0) (a .s .now) (a .at) (rw (k .number-count .ensures) at (c .before .before .if1 .left)) in
+    let b = number-below (bytesIn (a .w)) (width-bounds (a .w) .0) (a .s .now) (a .at)
+    (rw (k .number-count .ensures) at (c .before .before .if1 .left)) in
     rw (c .before .width-bytes .ensures) at (c .parse-be .ensures .0) ∙ sym (b .1)
 
 pub number-at-spec : {M : Type 1} → statement M

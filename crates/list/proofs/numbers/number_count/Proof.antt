@@ -1,4 +1,5 @@
--- `list::numbers::number_count` meets its contract, by the law of numbers of one width. Assumes nothing.
+-- `list::numbers::number_count` meets its contract, by the law of numbers of one width. Assumes
+-- nothing.
 use mathlib.Core.Path.{sym}
 use native.Mathlib.Omega.{arith}
 use Rattle.wire.specs.Numbers.{bytesIn}

@@ -1,5 +1,5 @@
--- `norrabist_c::norrabist_parse_tls_handshake_certificatestatus` meets its contract: the refusal of the reader, or the numbers of its
--- message. Assumes nothing.
+-- `norrabist_c::norrabist_parse_tls_handshake_certificatestatus` meets its contract: the refusal of
+-- the reader, or the numbers of its message. Assumes nothing.
 use Rattle.refusal.proofs.Told.{case}
 use Rattle.read_certs.specs.Certs.{statusSays}
 use Rattle.norrabist_c.proofs.Exports.{none-told, all-told}
@@ -24,13 +24,18 @@ tell-message-requires : tie.Need-tell-message-requires
 tell-message-requires c κs = search needs
 
 returns : tie.Need-returns
-returns c = none-told _ _ (case statusSays (c .before .before .before .before .parse-tls-handshake-certificatestatus .ensures) (c .before .before .r .given .1)) (c .refusal-number .ensures)
+returns c =
+    none-told _ _ (case statusSays (c .before .before .before .before .parse-tls-handshake-certificatestatus .ensures)
+    (c .before .before .r .given .1)) (c .refusal-number .ensures)
 
 same-length : tie.Need-same-length
 same-length c = search needs
 
 returns-2 : tie.Need-returns-2
-returns-2 c = all-told _ _ (case statusSays (c .before .before .before .before .before .before .before .parse-tls-handshake-certificatestatus .ensures) (c .before .before .before .before .before .c .given .1)) (c .before .before .tell-message .ensures)
+returns-2 c =
+    let early = c .before .before .before .before .before .before .before in
+    all-told _ _ (case statusSays (early .parse-tls-handshake-certificatestatus .ensures)
+    (c .before .before .before .before .before .c .given .1)) (c .before .before .tell-message .ensures)
 
 pub norrabist-parse-tls-handshake-certificatestatus-spec : {M : Type 1} → statement M
 norrabist-parse-tls-handshake-certificatestatus-spec =

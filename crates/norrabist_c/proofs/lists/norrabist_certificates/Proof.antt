@@ -1,4 +1,5 @@
--- `norrabist_c::norrabist_certificates` meets its contract: the block of items behind three bytes that was put in. Assumes nothing.
+-- `norrabist_c::norrabist_certificates` meets its contract: the block of items behind three bytes
+-- that was put in. Assumes nothing.
 use borrow.Author.Needs.{needs}
 use Rattle.norrabist_c.proofs.lists.norrabist_certificates.Statement.{statement}
 use Rattle.norrabist_c.proofs.lists.norrabist_certificates.Tie as tie

@@ -1,4 +1,5 @@
--- `norrabist_c::norrabist_messages` meets its contract: the block of messages that was put in. Assumes nothing.
+-- `norrabist_c::norrabist_messages` meets its contract: the block of messages that was put in.
+-- Assumes nothing.
 use borrow.Author.Needs.{needs}
 use Rattle.norrabist_c.proofs.lists.norrabist_messages.Statement.{statement}
 use Rattle.norrabist_c.proofs.lists.norrabist_messages.Tie as tie

@@ -1,4 +1,5 @@
--- `norrabist_c::norrabist_names` meets its contract: the block of items behind two bytes that was put in. Assumes nothing.
+-- `norrabist_c::norrabist_names` meets its contract: the block of items behind two bytes that was
+-- put in. Assumes nothing.
 use borrow.Author.Needs.{needs}
 use Rattle.norrabist_c.proofs.lists.norrabist_names.Statement.{statement}
 use Rattle.norrabist_c.proofs.lists.norrabist_names.Tie as tie

@@ -1,4 +1,5 @@
--- `norrabist_c::norrabist_numbers` meets its contract: the block of numbers that was put in. Assumes nothing.
+-- `norrabist_c::norrabist_numbers` meets its contract: the block of numbers that was put in.
+-- Assumes nothing.
 use borrow.Author.Needs.{needs}
 use Rattle.norrabist_c.proofs.lists.norrabist_numbers.Statement.{statement}
 use Rattle.norrabist_c.proofs.lists.norrabist_numbers.Tie as tie

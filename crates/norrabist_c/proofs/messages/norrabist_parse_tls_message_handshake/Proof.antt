@@ -1,10 +1,10 @@
--- `norrabist_c::norrabist_parse_tls_message_handshake` meets its contract: the refusal of the head or of the message, or both told. Assumes
--- nothing.
+-- `norrabist_c::norrabist_parse_tls_message_handshake` meets its contract: the refusal of the head
+-- or of the body, or the message told. Assumes nothing.
 use Rattle.refusal.proofs.Told.{case}
 use Rattle.message.specs.Messages.{messageSays}
 use Rattle.envelope.specs.Opening.{headSays}
-use Rattle.envelope.proofs.Heads.{met-no-head}
-use Rattle.norrabist_c.proofs.Exports.{none-told, all-told, front-not, front-met}
+use Rattle.envelope.proofs.Heads.{met-no-head, met-no-body, met-got}
+use Rattle.norrabist_c.proofs.Exports.{none-told, all-told}
 use borrow.Author.Needs.{needs}
 use Rattle.norrabist_c.proofs.messages.norrabist_parse_tls_message_handshake.Statement.{statement}
 use Rattle.norrabist_c.proofs.messages.norrabist_parse_tls_message_handshake.Tie as tie
@@ -19,16 +19,25 @@ refusal-number-requires : tie.Need-refusal-number-requires
 refusal-number-requires c κs = search needs
 
 returns : tie.Need-returns
-returns c = none-told _ _ (met-no-head _ _ (case headSays (c .before .before .before .before .parse-tls-message-head .ensures) (c .before .before .r .given .1))) (c .refusal-number .ensures)
+returns c =
+    none-told _ _ (met-no-head _ _
+    (case headSays (c .before .before .before .before .parse-tls-message-head .ensures)
+    (c .before .before .r .given .1))) (c .refusal-number .ensures)
 
 enum-known-h : tie.Need-enum-known-h
 enum-known-h c = search needs
 
-parse-tls-message-handshake-requires : tie.Need-parse-tls-message-handshake-requires
-parse-tls-message-handshake-requires c κs = search needs
+part-of-requires : tie.Need-part-of-requires
+part-of-requires c κs = search needs
+
+parse-tls-handshake-body-requires : tie.Need-parse-tls-handshake-body-requires
+parse-tls-handshake-body-requires c κs = search needs
 
 enum-known-r-2 : tie.Need-enum-known-r-2
 enum-known-r-2 c = search needs
+
+inside-requires : tie.Need-inside-requires
+inside-requires c κs = search needs
 
 refusal-number-requires-2 : tie.Need-refusal-number-requires-2
 refusal-number-requires-2 c κs = search needs
@@ -40,14 +49,25 @@ tell-met-requires : tie.Need-tell-met-requires
 tell-met-requires c κs = search needs
 
 returns-2 : tie.Need-returns-2
-returns-2 c = none-told _ _ (front-not _ (case messageSays (c .before .before .before .before .parse-tls-message-handshake .ensures) (c .before .before .r2 .given .1))) (c .refusal-number2 .ensures)
+returns-2 c =
+    let f = c .before .before .before .before .before in
+    let g = f .before .before .before .before in
+    let e = met-no-body _ _ (case headSays (g .before .before .parse-tls-message-head .ensures) (g .h .given .1))
+    (case messageSays (rw (f .before .part-of .ensures) at (f .parse-tls-handshake-body .ensures))
+    (c .before .before .before .r2 .given .1)) in
+    none-told _ _ e (rw (c .before .inside .ensures) at (c .refusal-number2 .ensures))
 
 same-length : tie.Need-same-length
 same-length c = search needs
 
 returns-3 : tie.Need-returns-3
 returns-3 c =
-    let e = front-met _ (case headSays (c .before .before .before .before .before .before .before .before .before .before .before .before .parse-tls-message-head .ensures) (c .before .before .before .before .before .before .before .before .before .before .h .given .1)) (case messageSays (c .before .before .before .before .before .before .before .parse-tls-message-handshake .ensures) (c .before .before .before .before .before .m .given .1)) in
+    let m = c .before .before .before .before .before in
+    let f = m .before .before in
+    let g = f .before .before .before .before in
+    let e = met-got _ _ (case headSays (g .before .before .parse-tls-message-head .ensures) (g .h .given .1))
+    (case messageSays (rw (f .before .part-of .ensures) at (f .parse-tls-handshake-body .ensures))
+    (m .m .given .1)) in
     all-told _ _ e (c .before .before .tell-met .ensures)
 
 pub norrabist-parse-tls-message-handshake-spec : {M : Type 1} → statement M
@@ -59,8 +79,10 @@ norrabist-parse-tls-message-handshake-spec =
     refusal-number-requires
     returns
     enum-known-h
-    parse-tls-message-handshake-requires
+    part-of-requires
+    parse-tls-handshake-body-requires
     enum-known-r-2
+    inside-requires
     refusal-number-requires-2
     enum-known-m
     tell-met-requires

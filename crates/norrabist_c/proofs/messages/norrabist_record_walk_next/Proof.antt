@@ -1,5 +1,5 @@
--- `norrabist_c::norrabist_record_walk_next` meets its contract: NoSuch, or where the walk stands and the message that it met. Assumes
--- nothing.
+-- `norrabist_c::norrabist_record_walk_next` meets its contract: NoSuch, or where the walk stands
+-- and the message that it met. Assumes nothing.
 use Rattle.refusal.proofs.Told.{case}
 use Rattle.message.specs.Messages.{messageSays}
 use Rattle.norrabist_c.proofs.Exports.{as-told, none-told, next-not, next-told}
@@ -23,15 +23,20 @@ tell-met-requires : tie.Need-tell-met-requires
 tell-met-requires c κs = search needs
 
 returns : tie.Need-returns
-returns c = none-told _ _ (next-not _ _ (case messageSays (c .before .before .before .before .before .before .next .ensures .0) (c .before .before .answer .given .1))) (c .refusal-number .ensures)
+returns c =
+    let early = c .before .before .before .before .before .before in
+    none-told _ _ (next-not _ _ (case messageSays (early .next .ensures .0) (c .before .before .answer .given .1)))
+    (c .refusal-number .ensures)
 
 same-length : tie.Need-same-length
 same-length c = search needs
 
 returns-2 : tie.Need-returns-2
 returns-2 c =
-    let n = c .before .before .before .before .before .before .before .before .before .next .ensures in
-    as-told _ (next-told _ _ (case messageSays (n .0) (c .before .before .before .before .before .answer2 .given .1)) (n .1)) (c .before .before .tell-met .ensures)
+    let early = c .before .before .before .before .before .before .before .before .before in
+    let n = early .next .ensures in
+    as-told _ (next-told _ _ (case messageSays (n .0) (c .before .before .before .before .before .answer2 .given .1))
+    (n .1)) (c .before .before .tell-met .ensures)
 
 pub norrabist-record-walk-next-spec : {M : Type 1} → statement M
 norrabist-record-walk-next-spec =

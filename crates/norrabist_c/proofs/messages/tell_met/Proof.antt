@@ -1,4 +1,5 @@
--- `norrabist_c::tell_met` meets its contract: the message from place 3 on, and then the three numbers before it. Assumes nothing.
+-- `norrabist_c::tell_met` meets its contract: the message from place 3 on, and then the three
+-- numbers before it. Assumes nothing.
 use mathlib.Core.List.{[], _∷_}
 use Rattle.norrabist_c.proofs.Exports.{front-out, front-in}
 use borrow.Author.Needs.{needs}
@@ -24,7 +25,10 @@ same-length-2 : tie.Need-same-length-2
 same-length-2 c = search needs
 
 returns-2 : tie.Need-returns-2
-returns-2 c = front-in (_ ∷ _ ∷ _ ∷ []) _ _ (c .before .before .before .before .before .before .before .before .tell-message .ensures) (c .before .before .before .before .before .if1 .left) (c .before .before .gen-numbers .ensures)
+returns-2 c =
+    let early = c .before .before .before .before .before .before .before .before in
+    front-in (_ ∷ _ ∷ _ ∷ []) _ _ (early .tell-message .ensures)
+    (c .before .before .before .before .before .if1 .left) (c .before .before .gen-numbers .ensures)
 
 pub tell-met-spec : {M : Type 1} → statement M
 tell-met-spec =

@@ -1,5 +1,5 @@
--- `norrabist_c::norrabist_open_tls_plaintext` meets its contract: the refusal of the reader, or the numbers of record and message. Assumes
--- nothing.
+-- `norrabist_c::norrabist_open_tls_plaintext` meets its contract: the refusal of the reader, or the
+-- numbers of record and message. Assumes nothing.
 use Rattle.refusal.proofs.Told.{case}
 use Rattle.record_open.specs.Plaintext.{openedSays}
 use Rattle.norrabist_c.proofs.Exports.{none-told, all-told}
@@ -23,13 +23,18 @@ tell-opened-requires : tie.Need-tell-opened-requires
 tell-opened-requires c κs = search needs
 
 returns : tie.Need-returns
-returns c = none-told _ _ (case openedSays (c .before .before .before .before .open-tls-plaintext .ensures) (c .before .before .r .given .1)) (c .refusal-number .ensures)
+returns c =
+    none-told _ _ (case openedSays (c .before .before .before .before .open-tls-plaintext .ensures)
+    (c .before .before .r .given .1)) (c .refusal-number .ensures)
 
 same-length : tie.Need-same-length
 same-length c = search needs
 
 returns-2 : tie.Need-returns-2
-returns-2 c = all-told _ _ (case openedSays (c .before .before .before .before .before .before .before .open-tls-plaintext .ensures) (c .before .before .before .before .before .x .given .1)) (c .before .before .tell-opened .ensures)
+returns-2 c =
+    let early = c .before .before .before .before .before .before .before in
+    all-told _ _ (case openedSays (early .open-tls-plaintext .ensures)
+    (c .before .before .before .before .before .x .given .1)) (c .before .before .tell-opened .ensures)
 
 pub norrabist-open-tls-plaintext-spec : {M : Type 1} → statement M
 norrabist-open-tls-plaintext-spec =

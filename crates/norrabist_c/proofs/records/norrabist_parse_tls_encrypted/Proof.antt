@@ -1,5 +1,5 @@
--- `norrabist_c::norrabist_parse_tls_encrypted` meets its contract: the refusal of the reader, or the numbers of what it read. Assumes
--- nothing.
+-- `norrabist_c::norrabist_parse_tls_encrypted` meets its contract: the refusal of the reader, or
+-- the numbers of what it read. Assumes nothing.
 use Rattle.refusal.proofs.Told.{case}
 use Rattle.record.specs.Records.{encryptedSays}
 use Rattle.norrabist_c.proofs.Exports.{as-told, none-told, all-told, encryptedNumbers, as-raw}
@@ -35,13 +35,22 @@ gen-numbers-requires : tie.Need-gen-numbers-requires
 gen-numbers-requires c κs = search needs
 
 returns : tie.Need-returns
-returns c = as-told _ (as-raw _) (none-told encryptedNumbers _ (case encryptedSays (c .before .before .before .before .parse-tls-encrypted .ensures) (c .before .before .r .given .1)) (c .refusal-number .ensures))
+returns c =
+    as-told _ (as-raw _)
+    (none-told encryptedNumbers _
+    (case encryptedSays (c .before .before .before .before .parse-tls-encrypted .ensures)
+    (c .before .before .r .given .1)) (c .refusal-number .ensures))
 
 same-length : tie.Need-same-length
 same-length c = search needs
 
 returns-2 : tie.Need-returns-2
-returns-2 c = as-told _ (as-raw _) (all-told encryptedNumbers _ (case encryptedSays (c .before .before .before .before .before .before .before .before .before .before .before .before .before .before .parse-tls-encrypted .ensures) (c .before .before .before .before .before .before .before .before .before .before .before .before .x .given .1)) (c .before .before .gen-numbers .ensures))
+returns-2 c =
+    let early = c .before .before .before .before .before .before .before .before .before .before .before .before in
+    as-told _ (as-raw _)
+    (all-told encryptedNumbers _
+    (case encryptedSays (early .before .before .parse-tls-encrypted .ensures) (early .x .given .1))
+    (c .before .before .gen-numbers .ensures))
 
 pub norrabist-parse-tls-encrypted-spec : {M : Type 1} → statement M
 norrabist-parse-tls-encrypted-spec =

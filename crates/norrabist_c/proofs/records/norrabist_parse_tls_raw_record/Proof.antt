@@ -1,5 +1,5 @@
--- `norrabist_c::norrabist_parse_tls_raw_record` meets its contract: the refusal of the reader, or the numbers of what it read. Assumes
--- nothing.
+-- `norrabist_c::norrabist_parse_tls_raw_record` meets its contract: the refusal of the reader, or
+-- the numbers of what it read. Assumes nothing.
 use Rattle.refusal.proofs.Told.{case}
 use Rattle.record.specs.Records.{rawSays}
 use Rattle.norrabist_c.proofs.Exports.{none-told, all-told}
@@ -35,13 +35,18 @@ gen-numbers-requires : tie.Need-gen-numbers-requires
 gen-numbers-requires c κs = search needs
 
 returns : tie.Need-returns
-returns c = none-told _ _ (case rawSays (c .before .before .before .before .parse-tls-raw-record .ensures) (c .before .before .r .given .1)) (c .refusal-number .ensures)
+returns c =
+    none-told _ _ (case rawSays (c .before .before .before .before .parse-tls-raw-record .ensures)
+    (c .before .before .r .given .1)) (c .refusal-number .ensures)
 
 same-length : tie.Need-same-length
 same-length c = search needs
 
 returns-2 : tie.Need-returns-2
-returns-2 c = all-told _ _ (case rawSays (c .before .before .before .before .before .before .before .before .before .before .before .before .before .parse-tls-raw-record .ensures) (c .before .before .before .before .before .before .before .before .before .before .before .x .given .1)) (c .before .before .gen-numbers .ensures)
+returns-2 c =
+    let early = c .before .before .before .before .before .before .before .before .before .before .before in
+    all-told _ _ (case rawSays (early .before .before .parse-tls-raw-record .ensures) (early .x .given .1))
+    (c .before .before .gen-numbers .ensures)
 
 pub norrabist-parse-tls-raw-record-spec : {M : Type 1} → statement M
 norrabist-parse-tls-raw-record-spec =

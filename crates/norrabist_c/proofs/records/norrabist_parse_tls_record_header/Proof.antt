@@ -1,5 +1,5 @@
--- `norrabist_c::norrabist_parse_tls_record_header` meets its contract: the refusal of the reader, or the numbers of what it read. Assumes
--- nothing.
+-- `norrabist_c::norrabist_parse_tls_record_header` meets its contract: the refusal of the reader,
+-- or the numbers of what it read. Assumes nothing.
 use Rattle.refusal.proofs.Told.{case}
 use Rattle.record.specs.Records.{headerSays}
 use Rattle.norrabist_c.proofs.Exports.{none-told, all-told}
@@ -35,13 +35,18 @@ gen-numbers-requires : tie.Need-gen-numbers-requires
 gen-numbers-requires c κs = search needs
 
 returns : tie.Need-returns
-returns c = none-told _ _ (case headerSays (c .before .before .before .before .parse-tls-record-header .ensures) (c .before .before .r .given .1)) (c .refusal-number .ensures)
+returns c =
+    none-told _ _ (case headerSays (c .before .before .before .before .parse-tls-record-header .ensures)
+    (c .before .before .r .given .1)) (c .refusal-number .ensures)
 
 same-length : tie.Need-same-length
 same-length c = search needs
 
 returns-2 : tie.Need-returns-2
-returns-2 c = all-told _ _ (case headerSays (c .before .before .before .before .before .before .before .before .before .before .before .parse-tls-record-header .ensures) (c .before .before .before .before .before .before .before .before .before .h .given .1)) (c .before .before .gen-numbers .ensures)
+returns-2 c =
+    let early = c .before .before .before .before .before .before .before .before .before in
+    all-told _ _ (case headerSays (early .before .before .parse-tls-record-header .ensures) (early .h .given .1))
+    (c .before .before .gen-numbers .ensures)
 
 pub norrabist-parse-tls-record-header-spec : {M : Type 1} → statement M
 norrabist-parse-tls-record-header-spec =

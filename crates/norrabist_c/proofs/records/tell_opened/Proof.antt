@@ -1,4 +1,5 @@
--- `norrabist_c::tell_opened` meets its contract: the message from place 11 on, and then the numbers before it. Assumes nothing.
+-- `norrabist_c::tell_opened` meets its contract: the message from place 11 on, and then the numbers
+-- before it. Assumes nothing.
 use mathlib.Core.List.{[], _∷_}
 use Rattle.norrabist_c.proofs.Exports.{front-out, front-in}
 use borrow.Author.Needs.{needs}
@@ -12,7 +13,9 @@ same-length : tie.Need-same-length
 same-length c = search needs
 
 returns : tie.Need-returns
-returns c = front-out (_ ∷ _ ∷ _ ∷ _ ∷ _ ∷ _ ∷ _ ∷ _ ∷ _ ∷ _ ∷ _ ∷ []) _ _ (c .before .before .before .tell-message .ensures) (c .if1 .taken)
+returns c =
+    front-out (_ ∷ _ ∷ _ ∷ _ ∷ _ ∷ _ ∷ _ ∷ _ ∷ _ ∷ _ ∷ _ ∷ []) _ _ (c .before .before .before .tell-message .ensures)
+    (c .if1 .taken)
 
 cast-t14 : tie.Need-cast-t14
 cast-t14 c = search needs
@@ -33,7 +36,12 @@ same-length-2 : tie.Need-same-length-2
 same-length-2 c = search needs
 
 returns-2 : tie.Need-returns-2
-returns-2 c = front-in (_ ∷ _ ∷ _ ∷ _ ∷ _ ∷ _ ∷ _ ∷ _ ∷ _ ∷ _ ∷ _ ∷ []) _ _ (c .before .before .before .before .before .before .before .before .before .before .before .before .before .before .before .before .tell-message .ensures) (c .before .before .before .before .before .before .before .before .before .before .before .before .before .if1 .left) (c .before .before .gen-numbers .ensures)
+returns-2 c =
+    let later = c .before .before .before .before .before .before .before .before .before .before in
+    let early = later .before .before .before in
+    front-in (_ ∷ _ ∷ _ ∷ _ ∷ _ ∷ _ ∷ _ ∷ _ ∷ _ ∷ _ ∷ _ ∷ []) _ _
+    (early .before .before .before .tell-message .ensures) (early .if1 .left)
+    (c .before .before .gen-numbers .ensures)
 
 pub tell-opened-spec : {M : Type 1} → statement M
 tell-opened-spec =

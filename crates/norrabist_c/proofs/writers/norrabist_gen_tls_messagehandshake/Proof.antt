@@ -1,5 +1,5 @@
--- `norrabist_c::norrabist_gen_tls_messagehandshake` meets its contract: numbers that tell of no message, or what the writer of the message
--- says. Assumes nothing.
+-- `norrabist_c::norrabist_gen_tls_messagehandshake` meets its contract: numbers that tell of no
+-- message, or what the writer of the message says. Assumes nothing.
 use Rattle.refusal.proofs.Told.{case}
 use Rattle.message.specs.Messages.{messageSays}
 use Rattle.wire.specs.Puts.{writeSays}
@@ -18,7 +18,10 @@ refusal-number-requires : tie.Need-refusal-number-requires
 refusal-number-requires c κs = search needs
 
 returns : tie.Need-returns
-returns c = no-text _ _ (not-heard _ _ (case messageSays (c .before .before .before .before .hear-message .ensures) (c .before .before .r .given .1))) (c .refusal-number .ensures)
+returns c =
+    no-text _ _ (not-heard _ _
+    (case messageSays (c .before .before .before .before .hear-message .ensures)
+    (c .before .before .r .given .1))) (c .refusal-number .ensures)
 
 enum-known-x : tie.Need-enum-known-x
 enum-known-x c = search needs
@@ -40,8 +43,13 @@ same-length c = search needs
 
 returns-2 : tie.Need-returns-2
 returns-2 c =
-    let g = c .before .before .before .before .before .before in
-    not-written _ _ (is-heard _ _ (case messageSays (g .before .before .before .before .before .hear-message .ensures) (g .before .before .before .x .given .1))) (case writeSays (g .gen-tls-messagehandshake .ensures .0) (c .before .before .r2 .given .1)) (c .refusal-number2 .ensures) (g .gen-tls-messagehandshake .ensures .1)
+    let early = c .before .before .before .before .before .before in
+    let g = early in
+    not-written _ _ (is-heard _ _
+    (case messageSays (g .before .before .before .before .before .hear-message .ensures)
+    (g .before .before .before .x .given .1)))
+    (case writeSays (g .gen-tls-messagehandshake .ensures .0) (c .before .before .r2 .given .1))
+    (c .refusal-number2 .ensures) (g .gen-tls-messagehandshake .ensures .1)
 
 same-length-2 : tie.Need-same-length-2
 same-length-2 c = search needs
@@ -49,7 +57,11 @@ same-length-2 c = search needs
 returns-3 : tie.Need-returns-3
 returns-3 c =
     let g = c .before .before .before .before .before in
-    all-written _ _ (is-heard _ _ (case messageSays (g .before .before .before .before .before .hear-message .ensures) (g .before .before .before .x .given .1))) (case writeSays (g .gen-tls-messagehandshake .ensures .0) (c .before .n .given .1)) (g .gen-tls-messagehandshake .ensures .1)
+    all-written _ _ (is-heard _ _
+    (case messageSays (g .before .before .before .before .before .hear-message .ensures)
+    (g .before .before .before .x .given .1)))
+    (case writeSays (g .gen-tls-messagehandshake .ensures .0) (c .before .n .given .1))
+    (g .gen-tls-messagehandshake .ensures .1)
 
 pub norrabist-gen-tls-messagehandshake-spec : {M : Type 1} → statement M
 norrabist-gen-tls-messagehandshake-spec =

@@ -1,4 +1,5 @@
--- `norrabist_c::norrabist_gen_tls_plaintext` meets its contract: what the writer of the record says. Assumes nothing.
+-- `norrabist_c::norrabist_gen_tls_plaintext` meets its contract: what the writer of the record
+-- says. Assumes nothing.
 use mathlib.Core.Path.{refl}
 use Rattle.refusal.proofs.Told.{case}
 use Rattle.wire.specs.Puts.{writeSays}

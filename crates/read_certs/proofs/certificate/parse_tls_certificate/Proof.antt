@@ -1,4 +1,5 @@
--- `read_certs::certificate::parse_tls_certificate` meets its contract: the one field is found, or not. Assumes nothing.
+-- `read_certs::certificate::parse_tls_certificate` meets its contract: the one field is found, or
+-- not. Assumes nothing.
 use mathlib.Core.Path.{sym}
 use Rattle.refusal.proofs.Told.{case}
 use Rattle.wire.specs.Parts.{partSays}
@@ -18,10 +19,14 @@ enum-known-p : tie.Need-enum-known-p
 enum-known-p c = search needs
 
 returns : tie.Need-returns
-returns c = sym (stop (begin certificate _) (case partSays (c .before .before .before .length-data .ensures) (c .before .r .given .1)))
+returns c =
+    sym (stop (begin certificate _)
+    (case partSays (c .before .before .before .length-data .ensures) (c .before .r .given .1)))
 
 returns-2 : tie.Need-returns-2
-returns-2 c = sym (end (and (begin certificate _) (case partSays (c .before .before .before .before .length-data .ensures) (c .before .before .p .given .1))))
+returns-2 c =
+    sym (end (and (begin certificate _)
+    (case partSays (c .before .before .before .before .length-data .ensures) (c .before .before .p .given .1))))
 
 pub parse-tls-certificate-spec : {M : Type 1} → statement M
 parse-tls-certificate-spec =

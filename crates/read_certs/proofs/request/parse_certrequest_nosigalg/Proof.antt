@@ -1,4 +1,5 @@
--- `read_certs::request::parse_certrequest_nosigalg` meets its contract, field by field. Assumes nothing.
+-- `read_certs::request::parse_certrequest_nosigalg` meets its contract, field by field. Assumes
+-- nothing.
 use Prim.Native.Nat.{ℕ, _≤_}
 use mathlib.Core.Path.{_≡_, sym, ap, _∙_}
 use mathlib.Core.Bool.{false}
@@ -21,8 +22,10 @@ use Rattle.read_certs.proofs.request.parse_certrequest_nosigalg.Stateme
 use Rattle.read_certs.proofs.request.parse_certrequest_nosigalg.Tie as tie
 
 -- a field of no bytes is found at every place
-no-bytes : (s : List ℕ) (at : ℕ) → at ≤ length s → step (fixed 0) s at ≡ accepted (record { view = record { start = at; len = 0 }; next = at })
-no-bytes s at h = fixed-in 0 s at (omega arith) ∙ ap (λ (k : ℕ). accepted (record { view = record { start = at; len = 0 }; next = k })) (add-zero at)
+no-bytes : (s : List ℕ) (at : ℕ) → at ≤ length s
+    → step (fixed 0) s at ≡ accepted (record { view = record { start = at; len = 0 }; next = at })
+no-bytes s at h = fixed-in 0 s at (omega arith)
+    ∙ ap (λ (k : ℕ). accepted (record { view = record { start = at; len = 0 }; next = k })) (add-zero at)
 
 -- the bytes lent, and what the answer comes down to, once a field was found
 abbrev S1 : tie.After-p → List ℕ
@@ -38,7 +41,8 @@ abbrev S2 : tie.After-p2 → List ℕ
 S2 c = S1 (c .before .before .before .before)
 
 abbrev at2 : (c : tie.After-p2) → So (reading (request false) (S2 c)) (S2 c) []
-at2 c = and (at1 (c .before .before .before .before)) (case partSays (c .before .before .length-data2 .ensures) (c .p2 .given .1))
+at2 c = and (at1 (c .before .before .before .before))
+    (case partSays (c .before .before .length-data2 .ensures) (c .p2 .given .1))
 
 length-data-requires : tie.Need-length-data-requires
 length-data-requires c κs = search needs
@@ -47,7 +51,9 @@ enum-known-r : tie.Need-enum-known-r
 enum-known-r c = search needs
 
 returns : tie.Need-returns
-returns c = sym (stop (begin (request false) _) (case partSays (c .before .before .before .length-data .ensures) (c .before .r .given .1)))
+returns c =
+    sym (stop (begin (request false) _)
+    (case partSays (c .before .before .before .length-data .ensures) (c .before .r .given .1)))
 
 enum-known-p : tie.Need-enum-known-p
 enum-known-p c = search needs
@@ -59,7 +65,9 @@ enum-known-r-2 : tie.Need-enum-known-r-2
 enum-known-r-2 c = search needs
 
 returns-2 : tie.Need-returns-2
-returns-2 c = sym (stop (at1 (c .before .before .before .before .before)) (case partSays (c .before .before .before .length-data2 .ensures) (c .before .r2 .given .1)))
+returns-2 c =
+    sym (stop (at1 (c .before .before .before .before .before))
+    (case partSays (c .before .before .before .length-data2 .ensures) (c .before .r2 .given .1)))
 
 enum-known-p-2 : tie.Need-enum-known-p-2
 enum-known-p-2 c = search needs

@@ -1,5 +1,5 @@
--- `read_certs::request::parse_tls_handshake_certificaterequest` meets its contract: the long form, else the short one, else Complete. Assumes
--- nothing.
+-- `read_certs::request::parse_tls_handshake_certificaterequest` meets its contract: the long form,
+-- else the short one, else Complete. Assumes nothing.
 use Rattle.refusal.proofs.Told.{case}
 use Rattle.read_certs.specs.Certs.{certificateRequest, requestSays}
 use borrow.Author.Needs.{needs}
@@ -31,17 +31,27 @@ returns : tie.Need-returns
 unfolding certificateRequest
 returns c =
     let f = c .before .before .before .before in
-    rw (case requestSays (f .before .before .parse-certrequest-full .ensures) (f .enum-told .given .1), case requestSays (c .before .before .before .parse-certrequest-nosigalg .ensures) (c .before .enum-told2 .given .1), c .refuse .ensures)
+    rw (
+      case requestSays (f .before .before .parse-certrequest-full .ensures) (f .enum-told .given .1),
+      case requestSays (c .before .before .before .parse-certrequest-nosigalg .ensures)
+          (c .before .enum-told2 .given .1),
+      c .refuse .ensures,
+    )
 
 returns-2 : tie.Need-returns-2
 unfolding certificateRequest
 returns-2 c =
     let f = c .before .before .before .before in
-    rw (case requestSays (f .before .before .parse-certrequest-full .ensures) (f .enum-told .given .1), case requestSays (c .before .before .before .parse-certrequest-nosigalg .ensures) (c .before .nosigalg .given .1))
+    rw (
+      case requestSays (f .before .before .parse-certrequest-full .ensures) (f .enum-told .given .1),
+      case requestSays (c .before .before .before .parse-certrequest-nosigalg .ensures)
+          (c .before .nosigalg .given .1),
+    )
 
 returns-3 : tie.Need-returns-3
 unfolding certificateRequest
-returns-3 c = rw (case requestSays (c .before .before .before .parse-certrequest-full .ensures) (c .before .full .given .1))
+returns-3 c =
+    rw (case requestSays (c .before .before .before .parse-certrequest-full .ensures) (c .before .full .given .1))
 
 pub parse-tls-handshake-certificaterequest-spec : {M : Type 1} → statement M
 parse-tls-handshake-certificaterequest-spec =

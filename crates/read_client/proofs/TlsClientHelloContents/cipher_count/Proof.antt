@@ -1,4 +1,5 @@
--- `read_client::TlsClientHelloContents::cipher_count` meets its contract, by those of `part_of` and `number_count`. Assumes nothing.
+-- `read_client::TlsClientHelloContents::cipher_count` meets its contract, by those of `part_of` and
+-- `number_count`. Assumes nothing.
 use borrow.Author.Needs.{needs}
 use Rattle.read_client.proofs.TlsClientHelloContents.cipher_count.Statement.{statement}
 use Rattle.read_client.proofs.TlsClientHelloContents.cipher_count.Tie as tie

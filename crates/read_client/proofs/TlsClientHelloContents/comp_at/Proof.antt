@@ -1,4 +1,5 @@
--- `read_client::TlsClientHelloContents::comp_at` meets its contract, by those of `part_of` and `number_at`. Assumes nothing.
+-- `read_client::TlsClientHelloContents::comp_at` meets its contract, by those of `part_of` and
+-- `number_at`. Assumes nothing.
 use borrow.Author.Needs.{needs}
 use Rattle.read_client.proofs.TlsClientHelloContents.comp_at.Statement.{statement}
 use Rattle.read_client.proofs.TlsClientHelloContents.comp_at.Tie as tie

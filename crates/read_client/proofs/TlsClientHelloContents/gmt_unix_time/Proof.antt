@@ -1,4 +1,5 @@
--- `read_client::TlsClientHelloContents::gmt_unix_time` meets its contract, by those of `random` and `parse_be`. Assumes nothing.
+-- `read_client::TlsClientHelloContents::gmt_unix_time` meets its contract, by those of `random` and
+-- `parse_be`. Assumes nothing.
 use native.Mathlib.Omega.{arith}
 use borrow.Author.Tests.{le-leb, lt-leb}
 use lib.ListN.{length}
@@ -22,17 +23,28 @@ enum-known-n : tie.Need-enum-known-n
 enum-known-n c = search needs
 
 cast-result : tie.Need-cast-result
-cast-result c = omega (arith, below-limit 4 (c .before .before .before .before .parse-be .ensures .1) (c .before .before .n .given .1))
+cast-result c =
+    let k = c .before .before in
+    omega (arith, below-limit 4 (k .before .before .parse-be .ensures .1) (k .n .given .1))
 
 returns : tie.Need-returns
 returns c =
     let n = number-short 4 _ 0 (case numberSays (c .before .before .parse-be .ensures .0) (c .enum-told .given .1)) in
-    rw (← (c .before .before .before .random .ensures), lt-leb 4 (length (c .before .before .before .random .result .now)) (n .outside))
+    rw (
+      ← (c .before .before .before .random .ensures),
+      lt-leb 4 (length (c .before .before .before .random .result .now)) (n .outside),
+    )
 
 returns-2 : tie.Need-returns-2
 returns-2 c =
-    let e = case numberSays (c .before .before .before .before .parse-be .ensures .0) (c .before .before .n .given .1) in
-    rw (← (c .before .before .before .before .before .random .ensures), le-leb 4 (length (c .before .before .before .before .before .random .result .now)) (number-is 4 _ 0 e .inside), number-value 4 _ 0 e)
+    let e = case numberSays (c .before .before .before .before .parse-be .ensures .0)
+    (c .before .before .n .given .1) in
+    rw (
+      ← (c .before .before .before .before .before .random .ensures),
+      le-leb 4 (length (c .before .before .before .before .before .random .result .now))
+          (number-is 4 _ 0 e .inside),
+      number-value 4 _ 0 e,
+    )
 
 pub gmt-unix-time-spec : {M : Type 1} → statement M
 gmt-unix-time-spec =

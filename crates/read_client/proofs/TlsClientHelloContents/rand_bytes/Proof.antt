@@ -1,4 +1,5 @@
--- `read_client::TlsClientHelloContents::rand_bytes` meets its contract: the rest of the random. Assumes nothing.
+-- `read_client::TlsClientHelloContents::rand_bytes` meets its contract: the rest of the random.
+-- Assumes nothing.
 use mathlib.Core.Path.{_∙_}
 use borrow.Author.Needs.{needs}
 use Rattle.read_client.proofs.TlsClientHelloContents.rand_bytes.Statement.{statement}

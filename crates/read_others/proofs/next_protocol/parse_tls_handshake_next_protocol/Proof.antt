@@ -1,4 +1,5 @@
--- `read_others::next_protocol::parse_tls_handshake_next_protocol` meets its contract, field by field. Assumes nothing.
+-- `read_others::next_protocol::parse_tls_handshake_next_protocol` meets its contract, field by
+-- field. Assumes nothing.
 use Prim.Native.Nat.{ℕ}
 use mathlib.Core.Path.{sym}
 use mathlib.Core.List.{List, [], _∷_}
@@ -25,7 +26,8 @@ abbrev S2 : tie.After-p2 → List ℕ
 S2 c = S1 (c .before .before .before .before)
 
 abbrev at2 : (c : tie.After-p2) → So (reading nextProtocol (S2 c)) (S2 c) []
-at2 c = and (at1 (c .before .before .before .before)) (case partSays (c .before .before .length-data2 .ensures) (c .p2 .given .1))
+at2 c = and (at1 (c .before .before .before .before))
+    (case partSays (c .before .before .length-data2 .ensures) (c .p2 .given .1))
 
 length-data-requires : tie.Need-length-data-requires
 length-data-requires c κs = search needs
@@ -34,7 +36,9 @@ enum-known-r : tie.Need-enum-known-r
 enum-known-r c = search needs
 
 returns : tie.Need-returns
-returns c = sym (stop (begin nextProtocol _) (case partSays (c .before .before .before .length-data .ensures) (c .before .r .given .1)))
+returns c =
+    sym (stop (begin nextProtocol _)
+    (case partSays (c .before .before .before .length-data .ensures) (c .before .r .given .1)))
 
 enum-known-p : tie.Need-enum-known-p
 enum-known-p c = search needs
@@ -46,7 +50,9 @@ enum-known-r-2 : tie.Need-enum-known-r-2
 enum-known-r-2 c = search needs
 
 returns-2 : tie.Need-returns-2
-returns-2 c = sym (stop (at1 (c .before .before .before .before .before)) (case partSays (c .before .before .before .length-data2 .ensures) (c .before .r2 .given .1)))
+returns-2 c =
+    sym (stop (at1 (c .before .before .before .before .before))
+    (case partSays (c .before .before .before .length-data2 .ensures) (c .before .r2 .given .1)))
 
 enum-known-p-2 : tie.Need-enum-known-p-2
 enum-known-p-2 c = search needs

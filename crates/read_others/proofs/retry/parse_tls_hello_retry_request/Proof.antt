@@ -1,16 +1,14 @@
--- `read_others::retry::parse_tls_hello_retry_request` meets its contract, field by field. Assumes nothing.
+-- `read_others::retry::parse_tls_hello_retry_request` meets its contract, field by field. Assumes
+-- nothing.
 use Prim.Native.Nat.{ℕ}
 use mathlib.Core.Path.{sym, _∙_}
 use mathlib.Core.List.{List, [], _∷_}
 use native.Mathlib.Omega.{arith}
 use denote.Ref.{now}
-use Rattle.refusal.proofs.Told.{case}
-use Rattle.wire.specs.Numbers.{numberSays}
-use Rattle.wire.proofs.Numbers.{number-value, below-limit}
-use Rattle.field.proofs.Rules.{number-field, number-field-no}
 use Rattle.grammar.specs.Hellos.{cipher}
 use Rattle.grammar.specs.Forms.{reading}
 use Rattle.grammar.proofs.Chain.{So, begin, and, stop, end}
+use Rattle.grammar.proofs.Numbers.{Found, found, not-found}
 use Rattle.read_others.specs.Body.{retry}
 use borrow.Author.Needs.{needs}
 use Rattle.read_others.proofs.retry.parse_tls_hello_retry_request.Statement.{statement}
@@ -20,14 +18,20 @@ use Rattle.read_others.proofs.retry.parse_tls_hello_retry_request.Tie a
 abbrev S1 : tie.After-n → List ℕ
 S1 c = now (c .before .before .before .before .args .i)
 
+n1 : (c : tie.After-n) → Found 2 (S1 c) 0 (c .n .given .0 .0)
+n1 c = found 2 (c .before .before .parse-be .ensures) (c .n .given .1)
+
 abbrev at1 : (c : tie.After-n) → So (reading retry (S1 c)) (S1 c) (cipher ∷ [])
-at1 c = and (begin retry (S1 c)) (number-field 2 _ _ (case numberSays (c .before .before .parse-be .ensures .0) (c .n .given .1)))
+at1 c = and (begin retry (S1 c)) (n1 c .field)
 
 abbrev S2 : tie.After-n2 → List ℕ
 S2 c = S1 (c .before .before .before .before)
 
+n2 : (c : tie.After-n2) → Found 2 (S2 c) (c .before .before .before .before .n .given .0 .0 .next) (c .n2 .given .0 .0)
+n2 c = found 2 (c .before .before .parse-be2 .ensures) (c .n2 .given .1)
+
 abbrev at2 : (c : tie.After-n2) → So (reading retry (S2 c)) (S2 c) []
-at2 c = and (at1 (c .before .before .before .before)) (number-field 2 _ _ (case numberSays (c .before .before .parse-be2 .ensures .0) (c .n2 .given .1)))
+at2 c = and (at1 (c .before .before .before .before)) (n2 c .field)
 
 parse-be-requires : tie.Need-parse-be-requires
 parse-be-requires c κs = search needs
@@ -36,7 +40,8 @@ enum-known-r : tie.Need-enum-known-r
 enum-known-r c = search needs
 
 returns : tie.Need-returns
-returns c = sym (stop (begin retry _) (number-field-no 2 _ _ (case numberSays (c .before .before .before .parse-be .ensures .0) (c .before .r .given .1))))
+returns c =
+    sym (stop (begin retry _) (not-found 2 _ _ (c .before .before .before .parse-be .ensures) (c .before .r .given .1)))
 
 enum-known-n : tie.Need-enum-known-n
 enum-known-n c = search needs
@@ -48,7 +53,9 @@ enum-known-r-2 : tie.Need-enum-known-r-2
 enum-known-r-2 c = search needs
 
 returns-2 : tie.Need-returns-2
-returns-2 c = sym (stop (at1 (c .before .before .before .before .before)) (number-field-no 2 _ _ (case numberSays (c .before .before .before .parse-be2 .ensures .0) (c .before .r2 .given .1))))
+returns-2 c =
+    sym (stop (at1 (c .before .before .before .before .before))
+    (not-found 2 _ _ (c .before .before .before .parse-be2 .ensures) (c .before .r2 .given .1)))
 
 enum-known-n-2 : tie.Need-enum-known-n-2
 enum-known-n-2 c = search needs
@@ -57,22 +64,19 @@ opt-length-data-requires : tie.Need-opt-length-data-requires
 opt-length-data-requires c κs = search needs
 
 cast-t16 : tie.Need-cast-t16
-cast-t16 c =
-    let g = c .before .before .before .before .before .before .before in
-    omega (arith, below-limit 2 (g .before .before .parse-be .ensures .1) (g .n .given .1))
+cast-t16 c = omega (arith, n1 (c .before .before .before .before .before .before .before) .below)
 
 cast-t17 : tie.Need-cast-t17
-cast-t17 c =
-    let f = c .before .before .before .before in
-    omega (arith, below-limit 2 (f .before .before .parse-be2 .ensures .1) (f .n2 .given .1))
+cast-t17 c = omega (arith, n2 (c .before .before .before .before) .below)
 
 returns-3 : tie.Need-returns-3
 returns-3 c =
     let f = c .before .before .before .before in
-    let g = f .before .before .before .before in
-    let m = number-value 2 _ _ (case numberSays (g .before .before .parse-be .ensures .0) (g .n .given .1)) in
-    let n = number-value 2 _ _ (case numberSays (f .before .before .parse-be2 .ensures .0) (f .n2 .given .1)) in
-    sym (end (at2 f) ∙ rw (m, n, c .before .before .opt-length-data .ensures))
+    sym (end (at2 f) ∙ rw (
+      n1 (f .before .before .before .before) .value,
+      n2 f .value,
+      c .before .before .opt-length-data .ensures,
+    ))
 
 pub parse-tls-hello-retry-request-spec : {M : Type 1} → statement M
 parse-tls-hello-retry-request-spec =

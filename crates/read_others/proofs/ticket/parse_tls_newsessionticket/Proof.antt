@@ -1,4 +1,5 @@
--- `read_others::ticket::parse_tls_newsessionticket` meets its contract, by the length given. Assumes nothing.
+-- `read_others::ticket::parse_tls_newsessionticket` meets its contract, by the length given.
+-- Assumes nothing.
 use Prim.Native.Nat.{ℕ}
 use mathlib.Core.Path.{_≡_, sym}
 use mathlib.Core.List.{List}
@@ -38,7 +39,9 @@ enum-known-r : tie.Need-enum-known-r
 enum-known-r c = search needs
 
 returns-2 : tie.Need-returns-2
-returns-2 c = sym (past-end _ _ (c .before .before .before .before .if1 .left) (case partSays (c .before .before .before .take .ensures) (c .before .r .given .1)))
+returns-2 c =
+    sym (past-end _ _ (c .before .before .before .before .if1 .left)
+    (case partSays (c .before .before .before .take .ensures) (c .before .r .given .1)))
 
 enum-known-p : tie.Need-enum-known-p
 enum-known-p c = search needs
@@ -54,7 +57,8 @@ returns-3 : tie.Need-returns-3
 returns-3 c =
     let f = c .before .before .before .before .before in
     let i = there _ _ (body f) .1 in
-    let o = number-short 4 _ _ (case numberSays (c .before .before .before .parse-be .ensures .0) (c .before .r2 .given .1)) .outside in
+    let o = number-short 4 _ _
+    (case numberSays (c .before .before .before .parse-be .ensures .0) (c .before .r2 .given .1)) .outside in
     absurd (omega (arith, i, o, f .before .before .before .if1 .left))
 
 enum-known-n : tie.Need-enum-known-n
@@ -67,10 +71,12 @@ cast-t19 c =
 
 returns-4 : tie.Need-returns-4
 returns-4 c =
-    let f = c .before .before .before .before .before .before in
+    let early = c .before .before .before .before .before .before in
+    let f = early in
     let h = f .before .before .before .if1 .left in
     let b = there _ _ (body f) in
-    let n = number-is 4 _ _ (case numberSays (c .before .before .before .before .parse-be .ensures .0) (c .before .before .n .given .1)) in
+    let n = number-is 4 _ _
+    (case numberSays (c .before .before .before .before .parse-be .ensures .0) (c .before .before .n .given .1)) in
     rw (n .is, b .0) (sym (whole _ _ h (b .1)))
 
 pub parse-tls-newsessionticket-spec : {M : Type 1} → statement M

@@ -1,5 +1,5 @@
--- `read_server::tlsv12::extensions` meets its contract: with extensions that of `opt_length_data`, without them nothing is looked at. Assumes
--- nothing.
+-- `read_server::tlsv12::extensions` meets its contract: with extensions that of `opt_length_data`,
+-- without them nothing is looked at. Assumes nothing.
 use borrow.Author.Needs.{needs}
 use Rattle.read_server.proofs.tlsv12.extensions.Statement.{statement}
 use Rattle.read_server.proofs.tlsv12.extensions.Tie as tie

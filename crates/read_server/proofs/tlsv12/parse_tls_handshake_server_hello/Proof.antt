@@ -1,4 +1,5 @@
--- `read_server::tlsv12::parse_tls_handshake_server_hello` meets its contract: the version decides. Assumes nothing.
+-- `read_server::tlsv12::parse_tls_handshake_server_hello` meets its contract: the version decides.
+-- Assumes nothing.
 use Prim.Native.Nat.{ℕ}
 use mathlib.Core.Path.{_≡_}
 use mathlib.Core.Bool.{true, false}
@@ -23,7 +24,9 @@ use Rattle.read_server.proofs.tlsv12.parse_tls_handshake_server_hello.S
 use Rattle.read_server.proofs.tlsv12.parse_tls_handshake_server_hello.Tie as tie
 
 -- what is read by the form that the version announces is the answer
-read-by : (s : List ℕ) {a : NumberAnswer} {n : Number} {x : Answer TlsServerHelloContents} (k : Form TlsServerHelloContents) → numberSays a ≡ numberAt 2 s 0 → a ≡ Got n → lookup (n .value) serverVersions ≡ some k → x ≡ reading k s → x ≡ byVersion serverVersions s
+read-by : (s : List ℕ) {a : NumberAnswer} {n : Number} {x : Answer TlsServerHelloContents}
+    (k : Form TlsServerHelloContents) → numberSays a ≡ numberAt 2 s 0 → a ≡ Got n
+    → lookup (n .value) serverVersions ≡ some k → x ≡ reading k s → x ≡ byVersion serverVersions s
 unfolding byVersion
 read-by s k e g l r = rw (case numberSays e g, l) r
 
@@ -65,28 +68,32 @@ refuse-requires c κs = search needs
 returns-2 : tie.Need-returns-2
 returns-2 c =
     let g = c .before .before .before in (
-      read-by _ (server true) (g .before .before .parse-be .ensures .0) (g .n .given .1) (rw (c .before .match2 .keys1)) (c .parse-tls-server-hello-tlsv12 .ensures .0),
+      read-by _ (server true) (g .before .before .parse-be .ensures .0) (g .n .given .1)
+          (rw (c .before .match2 .keys1)) (c .parse-tls-server-hello-tlsv12 .ensures .0),
       announced (g .before .before .before),
     )
 
 returns-3 : tie.Need-returns-3
 returns-3 c =
     let g = c .before .before .before in (
-      read-by _ (server true) (g .before .before .parse-be .ensures .0) (g .n .given .1) (rw (c .before .match2 .keys2)) (c .parse-tls-server-hello-tlsv122 .ensures .0),
+      read-by _ (server true) (g .before .before .parse-be .ensures .0) (g .n .given .1)
+          (rw (c .before .match2 .keys2)) (c .parse-tls-server-hello-tlsv122 .ensures .0),
       announced (g .before .before .before),
     )
 
 returns-4 : tie.Need-returns-4
 returns-4 c =
     let g = c .before .before .before in (
-      read-by _ (server true) (g .before .before .parse-be .ensures .0) (g .n .given .1) (rw (c .before .match2 .keys3)) (c .parse-tls-server-hello-tlsv123 .ensures .0),
+      read-by _ (server true) (g .before .before .parse-be .ensures .0) (g .n .given .1)
+          (rw (c .before .match2 .keys3)) (c .parse-tls-server-hello-tlsv123 .ensures .0),
       announced (g .before .before .before),
     )
 
 returns-5 : tie.Need-returns-5
 returns-5 c =
     let g = c .before .before .before in (
-      read-by _ (server false) (g .before .before .parse-be .ensures .0) (g .n .given .1) (rw (c .before .match2 .keys4)) (c .parse-tls-server-hello-tlsv124 .ensures .0),
+      read-by _ (server false) (g .before .before .parse-be .ensures .0) (g .n .given .1)
+          (rw (c .before .match2 .keys4)) (c .parse-tls-server-hello-tlsv124 .ensures .0),
       announced (g .before .before .before),
     )
 
@@ -96,7 +103,14 @@ returns-6 c =
     let g = c .before .before .before in
     let m = c .before .match2 .rest in
     let v = g .n .given .0 .0 .value in (
-      rw (case numberSays (g .before .before .parse-be .ensures .0) (g .n .given .1), ne-eqb v 0x0303 (m .0 .0 .0 .1), ne-eqb v 0x0302 (m .0 .0 .1), ne-eqb v 0x0301 (m .0 .1), ne-eqb v 0x0300 (m .1), c .refuse .ensures),
+      rw (
+        case numberSays (g .before .before .parse-be .ensures .0) (g .n .given .1),
+        ne-eqb v 0x0303 (m .0 .0 .0 .1),
+        ne-eqb v 0x0302 (m .0 .0 .1),
+        ne-eqb v 0x0301 (m .0 .1),
+        ne-eqb v 0x0300 (m .1),
+        c .refuse .ensures,
+      ),
       announced (g .before .before .before),
     )
 

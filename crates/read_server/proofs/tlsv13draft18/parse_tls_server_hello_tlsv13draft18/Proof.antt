@@ -1,20 +1,19 @@
--- `read_server::tlsv13draft18::parse_tls_server_hello_tlsv13draft18` meets its contract, field by field. Assumes nothing.
+-- `read_server::tlsv13draft18::parse_tls_server_hello_tlsv13draft18` meets its contract, field by
+-- field. Assumes nothing.
 use Prim.Native.Nat.{ℕ}
-use mathlib.Core.Path.{sym, _∙_}
+use mathlib.Core.Path.{_∙_}
 use mathlib.Core.List.{List, [], _∷_}
 use native.Mathlib.Omega.{arith}
 use denote.Ref.{now}
 use Rattle.refusal.proofs.Told.{case}
 use Rattle.wire.specs.Parts.{partSays}
-use Rattle.wire.specs.Numbers.{numberSays}
-use Rattle.wire.proofs.Numbers.{number-value, below-limit}
-use Rattle.field.proofs.Rules.{number-field, number-field-no}
 use Rattle.grammar.specs.Hellos.{random, cipher}
 use Rattle.grammar.specs.Demand3.{BySplit}
 use Rattle.grammar.specs.Forms.{reading}
 use Rattle.grammar.proofs.Chain.{So, begin, and, stop, end}
+use Rattle.grammar.proofs.Numbers.{Found, found, not-found}
 use Rattle.read_server.specs.Server.{draft18}
-use Rattle.read_server.proofs.Whole.{demand3-draft18}
+use Rattle.read_server.proofs.Whole.{demand3-draft18, with-split}
 use borrow.Author.Needs.{needs}
 use Rattle.read_server.proofs.tlsv13draft18.parse_tls_server_hello_tlsv13draft18.Statement.{statement}
 use Rattle.read_server.proofs.tlsv13draft18.parse_tls_server_hello_tlsv13draft18.Tie as tie
@@ -23,20 +22,27 @@ use Rattle.read_server.proofs.tlsv13draft18.parse_tls_server_hello_tlsv
 abbrev S1 : tie.After-n → List ℕ
 S1 c = now (c .before .before .before .before .args .i)
 
+n1 : (c : tie.After-n) → Found 2 (S1 c) 0 (c .n .given .0 .0)
+n1 c = found 2 (c .before .before .parse-be .ensures) (c .n .given .1)
+
 abbrev at1 : (c : tie.After-n) → So (reading draft18 (S1 c)) (S1 c) (random ∷ cipher ∷ [])
-at1 c = and (begin draft18 (S1 c)) (number-field 2 _ _ (case numberSays (c .before .before .parse-be .ensures .0) (c .n .given .1)))
+at1 c = and (begin draft18 (S1 c)) (n1 c .field)
 
 abbrev S2 : tie.After-p → List ℕ
 S2 c = S1 (c .before .before .before .before)
 
 abbrev at2 : (c : tie.After-p) → So (reading draft18 (S2 c)) (S2 c) (cipher ∷ [])
-at2 c = and (at1 (c .before .before .before .before)) (case partSays (c .before .before .take .ensures) (c .p .given .1))
+at2 c = and (at1 (c .before .before .before .before))
+    (case partSays (c .before .before .take .ensures) (c .p .given .1))
 
 abbrev S3 : tie.After-n2 → List ℕ
 S3 c = S2 (c .before .before .before .before)
 
+n2 : (c : tie.After-n2) → Found 2 (S3 c) (c .before .before .before .before .p .given .0 .0 .next) (c .n2 .given .0 .0)
+n2 c = found 2 (c .before .before .parse-be2 .ensures) (c .n2 .given .1)
+
 abbrev at3 : (c : tie.After-n2) → So (reading draft18 (S3 c)) (S3 c) []
-at3 c = and (at2 (c .before .before .before .before)) (number-field 2 _ _ (case numberSays (c .before .before .parse-be2 .ensures .0) (c .n2 .given .1)))
+at3 c = and (at2 (c .before .before .before .before)) (n2 c .field)
 
 -- what was lent is bytes, a fact of the slice's type, so that demand 3 holds of it
 split : (c : tie.After-shared-slice-known) → BySplit draft18 (now (c .before .args .i))
@@ -58,10 +64,10 @@ enum-known-r : tie.Need-enum-known-r
 enum-known-r c = search needs
 
 returns : tie.Need-returns
-returns c = (
-  sym (stop (begin draft18 _) (number-field-no 2 _ _ (case numberSays (c .before .before .before .parse-be .ensures .0) (c .before .r .given .1)))),
-  split (c .before .before .before .before),
-)
+returns c =
+    with-split (split (c .before .before .before .before))
+    (stop (begin draft18 _)
+    (not-found 2 _ _ (c .before .before .before .parse-be .ensures) (c .before .r .given .1)))
 
 enum-known-n : tie.Need-enum-known-n
 enum-known-n c = search needs
@@ -73,10 +79,10 @@ enum-known-r-2 : tie.Need-enum-known-r-2
 enum-known-r-2 c = search needs
 
 returns-2 : tie.Need-returns-2
-returns-2 c = (
-  sym (stop (at1 (c .before .before .before .before .before)) (case partSays (c .before .before .before .take .ensures) (c .before .r2 .given .1))),
-  split1 (c .before .before .before .before .before),
-)
+returns-2 c =
+    let g = c .before .before .before .before .before in
+    with-split (split1 g)
+    (stop (at1 g) (case partSays (c .before .before .before .take .ensures) (c .before .r2 .given .1)))
 
 enum-known-p : tie.Need-enum-known-p
 enum-known-p c = search needs
@@ -88,10 +94,10 @@ enum-known-r-3 : tie.Need-enum-known-r-3
 enum-known-r-3 c = search needs
 
 returns-3 : tie.Need-returns-3
-returns-3 c = (
-  sym (stop (at2 (c .before .before .before .before .before)) (number-field-no 2 _ _ (case numberSays (c .before .before .before .parse-be2 .ensures .0) (c .before .r3 .given .1)))),
-  split2 (c .before .before .before .before .before),
-)
+returns-3 c =
+    let g = c .before .before .before .before .before in
+    with-split (split2 g)
+    (stop (at2 g) (not-found 2 _ _ (c .before .before .before .parse-be2 .ensures) (c .before .r3 .given .1)))
 
 enum-known-n-2 : tie.Need-enum-known-n-2
 enum-known-n-2 c = search needs
@@ -101,21 +107,21 @@ opt-length-data-requires c κs = search needs
 
 cast-t22 : tie.Need-cast-t22
 cast-t22 c =
-    let g = c .before .before .before .before .before .before .before .before .before .before .before .before in
-    omega (arith, below-limit 2 (g .before .before .parse-be .ensures .1) (g .n .given .1))
+    let early = c .before .before .before .before .before .before .before .before .before .before .before .before in
+    omega (arith, n1 (early) .below)
 
 cast-t23 : tie.Need-cast-t23
-cast-t23 c =
-    let f = c .before .before .before .before .before in
-    omega (arith, below-limit 2 (f .before .before .parse-be2 .ensures .1) (f .n2 .given .1))
+cast-t23 c = omega (arith, n2 (c .before .before .before .before .before) .below)
 
 returns-4 : tie.Need-returns-4
 returns-4 c =
     let f = c .before .before .before .before .before in
-    let g = f .before .before .before .before .before .before .before .before in
-    let m = number-value 2 _ _ (case numberSays (g .before .before .parse-be .ensures .0) (g .n .given .1)) in
-    let n = number-value 2 _ _ (case numberSays (f .before .before .parse-be2 .ensures .0) (f .n2 .given .1)) in
-    (sym (end (at3 f) ∙ rw (m, n, c .before .before .before .opt-length-data .ensures)), split3 f)
+    with-split (split3 f)
+    (end (at3 f) ∙ rw (
+      n1 (f .before .before .before .before .before .before .before .before) .value,
+      n2 f .value,
+      c .before .before .before .opt-length-data .ensures,
+    ))
 
 pub parse-tls-server-hello-tlsv13draft18-spec : {M : Type 1} → statement M
 parse-tls-server-hello-tlsv13draft18-spec =

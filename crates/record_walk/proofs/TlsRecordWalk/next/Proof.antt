@@ -1,4 +1,5 @@
--- `record_walk::TlsRecordWalk::next` meets its contract: the message that is met, or NoSuch. Assumes nothing.
+-- `record_walk::TlsRecordWalk::next` meets its contract: the message that is met, or NoSuch.
+-- Assumes nothing.
 use mathlib.Core.Path.{ap}
 use Rattle.refusal.specs.Answers.{refused}
 use Rattle.refusal.proofs.Told.{case}
@@ -22,7 +23,8 @@ refuse-requires c κs = search needs
 returns : tie.Need-returns
 unfolding nextMessage moved
 returns c =
-    let e = met-no-head _ _ (case headSays (c .before .before .before .parse-tls-message-head .ensures) (c .before .enum-told .given .1)) in
+    let e = met-no-head _ _
+    (case headSays (c .before .before .before .parse-tls-message-head .ensures) (c .before .enum-told .given .1)) in
     (rw e (ap refused (c .refuse .ensures)), rw e)
 
 enum-known-h : tie.Need-enum-known-h
@@ -48,7 +50,10 @@ unfolding nextMessage moved
 returns-2 c =
     let f = c .before .before .before in
     let g = f .before .before .before in
-    let e = met-no-body _ _ (case headSays (g .before .before .before .parse-tls-message-head .ensures) (g .before .h .given .1)) (case messageSays (rw (f .before .part-of .ensures) at (f .parse-tls-handshake-body .ensures)) (c .before .enum-told2 .given .1)) in
+    let e = met-no-body _ _
+    (case headSays (g .before .before .before .parse-tls-message-head .ensures) (g .before .h .given .1))
+    (case messageSays (rw (f .before .part-of .ensures) at (f .parse-tls-handshake-body .ensures))
+    (c .before .enum-told2 .given .1)) in
     (rw e (ap refused (c .refuse2 .ensures)), rw e)
 
 returns-3 : tie.Need-returns-3
@@ -56,7 +61,10 @@ unfolding nextMessage moved
 returns-3 c =
     let f = c .before .before .before in
     let g = f .before .before .before in
-    let e = met-got _ _ (case headSays (g .before .before .before .parse-tls-message-head .ensures) (g .before .h .given .1)) (case messageSays (rw (f .before .part-of .ensures) at (f .parse-tls-handshake-body .ensures)) (c .before .m .given .1)) in
+    let e = met-got _ _ (case headSays (g .before .before .before .parse-tls-message-head .ensures)
+    (g .before .h .given .1))
+    (case messageSays (rw (f .before .part-of .ensures) at (f .parse-tls-handshake-body .ensures))
+    (c .before .m .given .1)) in
     (rw e, rw e)
 
 pub next-spec : {M : Type 1} → statement M

@@ -1,4 +1,5 @@
--- `wire::number::gen_be` meets its contract: the number is too large, or has no room, or is put in. Assumes nothing.
+-- `wire::number::gen_be` meets its contract: the number is too large, or has no room, or is put in.
+-- Assumes nothing.
 use mathlib.Core.Path.{ap, sym, _∙_}
 use Rattle.refusal.specs.Answers.{refused}
 use Rattle.refusal.proofs.Told.{case}
@@ -35,7 +36,8 @@ enum-known-p c = search needs
 
 put-number-requires : tie.Need-put-number-requires
 put-number-requires c κs =
-    room-fits _ _ _ (case partSays (c .before .before .before .before .room-for .ensures) (c .before .before .p .given .1)) .inside
+    room-fits _ _ _ (case partSays (c .before .before .before .before .room-for .ensures)
+    (c .before .before .p .given .1)) .inside
 
 same-length : tie.Need-same-length
 same-length c = search needs
@@ -45,7 +47,8 @@ returns-2 c =
     let k = c .before .before .before in
     let l = k .before .before .before in
     let e = case partSays (k .room-for .ensures) (c .before .r .given .1) in
-    let o = number-out _ _ _ _ (rw (l .limit .ensures) at (k .before .before .if1 .left)) (rw (l .before .width-bytes .ensures) at e) in
+    let o = number-out _ _ _ _ (rw (l .limit .ensures) at (k .before .before .if1 .left))
+    (rw (l .before .width-bytes .ensures) at e) in
     (sym (o .says), sym (o .leaves))
 
 same-length-2 : tie.Need-same-length-2
@@ -57,7 +60,8 @@ returns-3 c =
     let k = p .before .before .before .before .before in
     let l = k .before .before .before in
     let e = case partSays (k .room-for .ensures) (p .before .before .before .p .given .1) in
-    let o = number-put _ _ _ _ (rw (l .limit .ensures) at (k .before .before .if1 .left)) (rw (l .before .width-bytes .ensures) at e) in
+    let o = number-put _ _ _ _ (rw (l .limit .ensures) at (k .before .before .if1 .left))
+    (rw (l .before .width-bytes .ensures) at e) in
     (sym (o .says), rw (l .before .width-bytes .ensures) at (p .put-number .ensures) ∙ sym (o .leaves))
 
 pub gen-be-spec : {M : Type 1} → statement M

@@ -1,5 +1,5 @@
--- `wire::number::number_of` meets its contract: after k turns n is the number of the first k bytes, and below 256 to the k. Assumes
--- nothing.
+-- `wire::number::number_of` meets its contract: after k turns n is the number of the first k bytes,
+-- and below 256 to the k. Assumes nothing.
 use Prim.Native.Nat.{_+_, _-_, _^_, _≤_, _<_}
 use mathlib.Core.Path.{_≡_, refl}
 use native.Mathlib.Numerals.{add-one}
@@ -36,7 +36,11 @@ cast-n c =
 add-n-2 : tie.Need-add-n-2 Inv-loop μ-loop
 add-n-2 c =
     let l = c .before .before .loop in
-    omega (arith, small (l .k) (l .n) (omega arith) (l .inv .2), c .shared-slice-known .given (c .before .before .before .args .at + l .k))
+    omega (
+      arith,
+      small (l .k) (l .n) (omega arith) (l .inv .2),
+      c .shared-slice-known .given (c .before .before .before .args .at + l .k),
+    )
 
 add-k : tie.Need-add-k Inv-loop μ-loop
 add-k c = omega arith
@@ -48,8 +52,11 @@ loop-again : tie.Need-loop-again Inv-loop μ-loop
 unfolding be
 loop-again c =
     let l = c .before .before .loop in
-    let b = c .before .before .before .args in
-    (omega arith, rw (add-one (l .k), ← l .inv .1), be-next (l .k) (l .n) _ (l .inv .2) (omega (arith, c .shared-slice-known .given (b .at + l .k))))
+    let b = c .before .before .before .args in (
+      omega arith,
+      rw (add-one (l .k), ← l .inv .1),
+      be-next (l .k) (l .n) _ (l .inv .2) (omega (arith, c .shared-slice-known .given (b .at + l .k))),
+    )
 
 returns : tie.Need-returns Inv-loop μ-loop
 returns c =

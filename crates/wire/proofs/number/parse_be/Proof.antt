@@ -1,4 +1,5 @@
--- `wire::number::parse_be` meets its contract, by those of `take_or` and `number_of`. Assumes nothing.
+-- `wire::number::parse_be` meets its contract, by those of `take_or` and `number_of`. Assumes
+-- nothing.
 use mathlib.Core.Path.{sym}
 use Rattle.refusal.proofs.Told.{case}
 use Rattle.wire.specs.Parts.{partSays}

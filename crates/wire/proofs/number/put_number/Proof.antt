@@ -1,5 +1,5 @@
--- `wire::number::put_number` meets its contract: what is still to be put, put into the buffer as it is, is the whole number put into the
--- buffer as lent. Assumes nothing.
+-- `wire::number::put_number` meets its contract: what is still to be put, put into the buffer as it
+-- is, is the whole number put into the buffer as lent. Assumes nothing.
 use Prim.Native.Nat.{_≤_}
 use mathlib.Core.Path.{_≡_, sym, _∙_}
 use native.Mathlib.Omega.{arith}
@@ -12,7 +12,8 @@ use Rattle.wire.proofs.number.put_number.Statement.{statement}
 use Rattle.wire.proofs.number.put_number.Tie as tie
 
 abbrev Inv-loop : tie.InvT-loop
-Inv-loop out₀ at count n left₀ m₀ out left m = (left ≤ count) × (put out at (bytesOf left m) ≡ put out₀ at (bytesOf count n)) × (length out ≡ length out₀)
+Inv-loop out₀ at count n left₀ m₀ out left m = (left ≤ count)
+    × (put out at (bytesOf left m) ≡ put out₀ at (bytesOf count n)) × (length out ≡ length out₀)
 
 abbrev μ-loop : tie.MeasureT-loop
 μ-loop out₀ at count n left₀ m₀ out left m = left
@@ -37,8 +38,12 @@ loop-less c = search needs
 
 loop-again : tie.Need-loop-again Inv-loop μ-loop
 loop-again c =
-    let l = c .before in
-    (omega arith, number-next _ _ (l .loop .left) (l .loop .m) (omega arith) (omega arith) ∙ l .loop .inv .1, rw length-set (l .loop .inv .2))
+    let l = c .before in (
+      omega arith,
+      number-next _ _ (l .loop .left) (l .loop .m) (omega arith) (omega arith)
+          ∙ l .loop .inv .1,
+      rw length-set (l .loop .inv .2),
+    )
 
 same-length : tie.Need-same-length Inv-loop μ-loop
 same-length c = search needs

@@ -1,4 +1,5 @@
--- `wire::output::gen_bytes` meets its contract: there is no room, or the bytes are put in. Assumes nothing.
+-- `wire::output::gen_bytes` meets its contract: there is no room, or the bytes are put in. Assumes
+-- nothing.
 use mathlib.Core.Path.{refl, sym, _∙_}
 use Rattle.refusal.proofs.Told.{case}
 use Rattle.wire.specs.Parts.{partSays}
@@ -19,7 +20,8 @@ enum-known-p c = search needs
 
 put-bytes-requires : tie.Need-put-bytes-requires
 put-bytes-requires c κs =
-    room-fits _ _ _ (case partSays (c .before .before .before .before .room-for .ensures) (c .before .before .p .given .1)) .inside
+    room-fits _ _ _ (case partSays (c .before .before .before .before .room-for .ensures)
+    (c .before .before .p .given .1)) .inside
 
 same-length : tie.Need-same-length
 same-length c = search needs

@@ -1,4 +1,5 @@
--- `wire::output::put_bytes` meets its contract: the buffer is the one lent with the bytes so far put in. Assumes nothing.
+-- `wire::output::put_bytes` meets its contract: the buffer is the one lent with the bytes so far
+-- put in. Assumes nothing.
 use Prim.Native.Nat.{_-_, _≤_}
 use mathlib.Core.Path.{_≡_, refl, sym}
 use native.Mathlib.Omega.{arith}
@@ -37,8 +38,11 @@ loop-less c = search needs
 
 loop-again : tie.Need-loop-again Inv-loop μ-loop
 loop-again c =
-    let l = c .before .before in
-    (omega arith, rw (l .loop .inv .1) (copy-next _ _ _ (l .loop .k) (l .before .pre) (c .before .loop-test .taken)), rw length-set (l .loop .inv .2))
+    let l = c .before .before in (
+      omega arith,
+      rw (l .loop .inv .1) (copy-next _ _ _ (l .loop .k) (l .before .pre) (c .before .loop-test .taken)),
+      rw length-set (l .loop .inv .2),
+    )
 
 same-length : tie.Need-same-length Inv-loop μ-loop
 same-length c = search needs

@@ -1,4 +1,5 @@
--- `wire::output::room_for` meets its contract, by that of `take_or`: the bytes are there, or it is NoRoom. Assumes nothing.
+-- `wire::output::room_for` meets its contract, by that of `take_or`: the bytes are there, or it is
+-- NoRoom. Assumes nothing.
 use mathlib.Core.Path.{ap, sym, _∙_}
 use Rattle.refusal.specs.Answers.{accepted, refused}
 use Rattle.refusal.proofs.Told.{case}
@@ -22,7 +23,8 @@ enum-known-p c = search needs
 
 returns : tie.Need-returns
 returns c =
-    let s = short _ _ _ _ (case partSays (c .before .before .before .take-or .ensures) (c .before .enum-told .given .1)) in
+    let s = short _ _ _ _
+    (case partSays (c .before .before .before .take-or .ensures) (c .before .enum-told .given .1)) in
     ap refused (c .unplaced .ensures) ∙ sym (room-out _ _ _ (s .outside))
 
 returns-2 : tie.Need-returns-2

@@ -1,4 +1,5 @@
--- `wire::view::opt_part_of` meets its contract: a part that is there is that of `part_of`. Assumes nothing.
+-- `wire::view::opt_part_of` meets its contract: a part that is there is that of `part_of`. Assumes
+-- nothing.
 use borrow.Author.Needs.{needs}
 use Rattle.wire.proofs.view.opt_part_of.Statement.{statement}
 use Rattle.wire.proofs.view.opt_part_of.Tie as tie

@@ -1,4 +1,5 @@
--- `wire::view::part_of` meets its contract: the tests that led to each `return` decide the one of `partOf`. Assumes nothing.
+-- `wire::view::part_of` meets its contract: the tests that led to each `return` decide the one of
+-- `partOf`. Assumes nothing.
 use Prim.Native.Nat.{ℕ, _+_}
 use mathlib.Core.Path.{ap}
 use native.Mathlib.Nat.{add-sub-cancel-left}
@@ -14,7 +15,9 @@ slice-aggregate-result : tie.Need-slice-aggregate-result
 slice-aggregate-result c = search needs
 
 returns : tie.Need-returns
-returns c = simp (lt-leb (c .before .before .args .v .start + c .before .before .args .v .len) (length (now (c .before .before .args .body))) (omega arith))
+returns c =
+    simp (lt-leb (c .before .before .args .v .start + c .before .before .args .v .len)
+    (length (now (c .before .before .args .body))) (omega arith))
 
 sub-if2 : tie.Need-sub-if2
 sub-if2 c = search needs
@@ -23,7 +26,9 @@ slice-aggregate-result-2 : tie.Need-slice-aggregate-result-2
 slice-aggregate-result-2 c = search needs
 
 returns-2 : tie.Need-returns-2
-returns-2 c = simp (lt-leb (c .before .before .before .args .v .start + c .before .before .before .args .v .len) (length (now (c .before .before .before .args .body))) (omega arith))
+returns-2 c =
+    simp (lt-leb (c .before .before .before .args .v .start + c .before .before .before .args .v .len)
+    (length (now (c .before .before .before .args .body))) (omega arith))
 
 add-result : tie.Need-add-result
 add-result c = search needs
@@ -40,7 +45,8 @@ part-result-end c = search needs
 returns-3 : tie.Need-returns-3
 returns-3 c =
     let a = c .before .before .before .args in
-    simp (le-leb (a .v .start + a .v .len) (length (now (a .body))) (omega arith)) (ap (λ (k : ℕ). take k (drop (a .v .start) (now (a .body)))) (add-sub-cancel-left (a .v .start) (a .v .len)))
+    simp (le-leb (a .v .start + a .v .len) (length (now (a .body))) (omega arith))
+    (ap (λ (k : ℕ). take k (drop (a .v .start) (now (a .body)))) (add-sub-cancel-left (a .v .start) (a .v .len)))
 
 pub part-of-spec : {M : Type 1} → statement M
 part-of-spec =

@@ -1,4 +1,5 @@
--- `wire::view::take_or` meets its contract: at each `return` the tests that led there say which law of `partAt` holds. Assumes nothing.
+-- `wire::view::take_or` meets its contract: at each `return` the tests that led there say which law
+-- of `partAt` holds. Assumes nothing.
 use Prim.Native.Nat.{_-_}
 use mathlib.Core.Path.{_≡_, ap, sym, _∙_}
 use native.Mathlib.Omega.{arith}

@@ -1,4 +1,5 @@
--- `message::handshake::TlsMessageHandshake::rest` meets its contract, case by case. Assumes nothing.
+-- `message::handshake::TlsMessageHandshake::rest` meets its contract, case by case. Assumes
+-- nothing.
 use mathlib.Core.Path.{_∙_}
 use borrow.Author.Needs.{needs}
 use Rattle.message.proofs.handshake.TlsMessageHandshake.rest.Statement.{statement}

@@ -1,4 +1,5 @@
--- `read_certs::certificate::TlsCertificateContents::cert_at` meets its contract, by those of `part_of` and `item_at`. Assumes nothing.
+-- `read_certs::certificate::TlsCertificateContents::cert_at` meets its contract, by those of
+-- `part_of` and `item_at`. Assumes nothing.
 use borrow.Author.Needs.{needs}
 use Rattle.read_certs.proofs.certificate.TlsCertificateContents.cert_at.Statement.{statement}
 use Rattle.read_certs.proofs.certificate.TlsCertificateContents.cert_at.Tie as tie

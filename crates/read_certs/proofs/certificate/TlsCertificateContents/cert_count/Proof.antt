@@ -1,4 +1,5 @@
--- `read_certs::certificate::TlsCertificateContents::cert_count` meets its contract, by those of `part_of` and `item_count`. Assumes nothing.
+-- `read_certs::certificate::TlsCertificateContents::cert_count` meets its contract, by those of
+-- `part_of` and `item_count`. Assumes nothing.
 use borrow.Author.Needs.{needs}
 use Rattle.read_certs.proofs.certificate.TlsCertificateContents.cert_count.Statement.{statement}
 use Rattle.read_certs.proofs.certificate.TlsCertificateContents.cert_count.Tie as tie

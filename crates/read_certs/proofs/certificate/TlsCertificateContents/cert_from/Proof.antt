@@ -1,4 +1,5 @@
--- `read_certs::certificate::TlsCertificateContents::cert_from` meets its contract, by those of `part_of` and `item_from`. Assumes nothing.
+-- `read_certs::certificate::TlsCertificateContents::cert_from` meets its contract, by those of
+-- `part_of` and `item_from`. Assumes nothing.
 use borrow.Author.Needs.{needs}
 use Rattle.read_certs.proofs.certificate.TlsCertificateContents.cert_from.Statement.{statement}
 use Rattle.read_certs.proofs.certificate.TlsCertificateContents.cert_from.Tie as tie

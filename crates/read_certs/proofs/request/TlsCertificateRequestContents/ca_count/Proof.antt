@@ -1,4 +1,5 @@
--- `read_certs::request::TlsCertificateRequestContents::ca_count` meets its contract, by those of `part_of` and `item_count`. Assumes nothing.
+-- `read_certs::request::TlsCertificateRequestContents::ca_count` meets its contract, by those of
+-- `part_of` and `item_count`. Assumes nothing.
 use borrow.Author.Needs.{needs}
 use Rattle.read_certs.proofs.request.TlsCertificateRequestContents.ca_count.Statement.{statement}
 use Rattle.read_certs.proofs.request.TlsCertificateRequestContents.ca_count.Tie as tie

@@ -1,4 +1,5 @@
--- `read_certs::request::TlsCertificateRequestContents::sig_at` meets its contract, by those of `opt_part_of` and `number_at`. Assumes nothing.
+-- `read_certs::request::TlsCertificateRequestContents::sig_at` meets its contract, by those of
+-- `opt_part_of` and `number_at`. Assumes nothing.
 use borrow.Author.Needs.{needs}
 use Rattle.read_certs.proofs.request.TlsCertificateRequestContents.sig_at.Statement.{statement}
 use Rattle.read_certs.proofs.request.TlsCertificateRequestContents.sig_at.Tie as tie

@@ -1,5 +1,5 @@
--- `read_certs::request::TlsCertificateRequestContents::sig_count` meets its contract, by those of `opt_part_of` and `number_count`. Assumes
--- nothing.
+-- `read_certs::request::TlsCertificateRequestContents::sig_count` meets its contract, by those of
+-- `opt_part_of` and `number_count`. Assumes nothing.
 use borrow.Author.Needs.{needs}
 use Rattle.read_certs.proofs.request.TlsCertificateRequestContents.sig_count.Statement.{statement}
 use Rattle.read_certs.proofs.request.TlsCertificateRequestContents.sig_count.Tie as tie

@@ -1,4 +1,5 @@
--- `read_certs::request::TlsCertificateRequestContents::type_at` meets its contract, by those of `part_of` and `number_at`. Assumes nothing.
+-- `read_certs::request::TlsCertificateRequestContents::type_at` meets its contract, by those of
+-- `part_of` and `number_at`. Assumes nothing.
 use borrow.Author.Needs.{needs}
 use Rattle.read_certs.proofs.request.TlsCertificateRequestContents.type_at.Statement.{statement}
 use Rattle.read_certs.proofs.request.TlsCertificateRequestContents.type_at.Tie as tie

@@ -1,0 +1,3 @@
+pub mod Types
+pub mod Versions
+pub mod Limits
