@@ -1,11 +1,13 @@
-//! Links the proved archive: of `$NORRABIST_LIB`, or of `../target/native` of the tree that is built.
+//! Links the proved archive: of `$NORRABIST_LIB`, or of `../target/native` of the tree that is
+//! built.
 
 use std::path::{Path, PathBuf};
 use std::process::exit;
 
 fn main() {
     println!("cargo:rerun-if-env-changed=NORRABIST_LIB");
-    // asked of cargo in this run: a compiled-in path would be that of the tree where this program was first built
+    // asked of cargo in this run: a compiled-in path would be that of the tree where this program
+    // was first built
     let here = std::env::var_os("CARGO_MANIFEST_DIR").unwrap_or_default();
     let folder = match std::env::var_os("NORRABIST_LIB") {
         Some(folder) => PathBuf::from(folder),

@@ -1,9 +1,10 @@
 //! The classes: what is read, and by which functions of either side.
 
-use crate::{inputs, original, port};
+use crate::{inputs, norrabist, tls_parser};
 use std::hint::black_box;
 
-/// Opens the bytes and visits all that is in them; the sum of what was seen, the same on both sides.
+/// Opens the bytes and visits all that is in them; the sum of what was seen, the same on both
+/// sides.
 pub type Visit = fn(&[u8]) -> usize;
 
 pub struct Class {
@@ -11,8 +12,8 @@ pub struct Class {
     /// What the ratio may be at most, in a release build.
     pub limit: f64,
     pub inputs: Vec<Vec<u8>>,
-    pub port: Visit,
-    pub original: Visit,
+    pub norrabist: Visit,
+    pub tls_parser: Visit,
 }
 
 impl Class {
@@ -24,16 +25,16 @@ impl Class {
 
 pub fn all() -> Vec<Class> {
     let record = |name, inputs| {
-        let (port, original): (Visit, Visit) = (port::record, original::record);
-        Class { name, limit: 0.5, inputs, port, original }
+        let (norrabist, tls_parser): (Visit, Visit) = (norrabist::record, tls_parser::record);
+        Class { name, limit: 0.5, inputs, norrabist, tls_parser }
     };
     let walk = |name, inputs| {
-        let (port, original): (Visit, Visit) = (port::walk, original::walk);
-        Class { name, limit: 0.8, inputs, port, original }
+        let (norrabist, tls_parser): (Visit, Visit) = (norrabist::walk, tls_parser::walk);
+        Class { name, limit: 0.8, inputs, norrabist, tls_parser }
     };
-    let body = |name, inputs: Vec<Vec<u8>>, port: Visit, original: Visit| {
+    let body = |name, inputs: Vec<Vec<u8>>, norrabist: Visit, tls_parser: Visit| {
         let inputs = inputs.into_iter().map(|i| i[9..].to_vec()).collect();
-        Class { name, limit: 0.5, inputs, port, original }
+        Class { name, limit: 0.5, inputs, norrabist, tls_parser }
     };
     vec![
         record("small-client-hellos", inputs::client_hellos()),
@@ -43,8 +44,8 @@ pub fn all() -> Vec<Class> {
         record("large-certificate", vec![inputs::three_certificates()]),
         record("large-tiny-messages", vec![inputs::tiny_messages()]),
         record("large-short-messages", vec![inputs::short_messages()]),
-        body("body-client-hello", inputs::client_hellos(), port::client_hello, original::client_hello),
-        body("body-server-hello", inputs::server_hellos(), port::server_hello, original::server_hello),
+        body("body-client-hello", inputs::client_hellos(), norrabist::client_hello, tls_parser::client_hello),
+        body("body-server-hello", inputs::server_hellos(), norrabist::server_hello, tls_parser::server_hello),
         walk("loop-tiny-messages", vec![inputs::content(&inputs::tiny_messages())]),
         walk("loop-short-messages", vec![inputs::content(&inputs::short_messages())]),
     ]

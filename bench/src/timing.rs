@@ -9,13 +9,13 @@ const ROUNDS: usize = 15;
 const ROUND: Duration = Duration::from_millis(20);
 
 pub fn print(classes: &[Class]) {
-    println!("{:<22} {:>12} {:>12} {:>7} {:>7}", "class", "port ns", "crate ns", "ratio", "limit");
+    println!("{:<22} {:>13} {:>13} {:>7} {:>7}", "class", "Norrabist ns", "tls-parser ns", "ratio", "limit");
     for class in classes {
-        let seen = (class.run(class.port), class.run(class.original));
+        let seen = (class.run(class.norrabist), class.run(class.tls_parser));
         assert_eq!(seen.0, seen.1, "{}: the two sides saw different things", class.name);
-        let (port, original) = best(class);
-        let ratio = port / original;
-        println!("{:<22} {port:>12.1} {original:>12.1} {ratio:>7.3} {:>7.1}", class.name, class.limit);
+        let (norrabist, tls_parser) = best(class);
+        let ratio = norrabist / tls_parser;
+        println!("{:<22} {norrabist:>13.1} {tls_parser:>13.1} {ratio:>7.3} {:>7.1}", class.name, class.limit);
     }
 }
 
@@ -23,8 +23,8 @@ pub fn print(classes: &[Class]) {
 fn best(class: &Class) -> (f64, f64) {
     let mut best = (f64::MAX, f64::MAX);
     for _ in 0..ROUNDS {
-        best.0 = best.0.min(once(class, class.port));
-        best.1 = best.1.min(once(class, class.original));
+        best.0 = best.0.min(once(class, class.norrabist));
+        best.1 = best.1.min(once(class, class.tls_parser));
     }
     best
 }

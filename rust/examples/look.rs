@@ -1,4 +1,5 @@
-//! Prints the records and messages of hex on standard input, or of a ClientHello whose extension block is cut off.
+//! Prints the records and messages of hex on standard input, or of a ClientHello whose extension
+//! block is cut off.
 
 use norrabist::{parse_tls_plaintext, parse_tls_raw_record, TlsClientHelloContents, TlsMessageHandshake};
 use std::io::{stdin, IsTerminal, Read};
@@ -18,8 +19,12 @@ fn main() {
         let at = bytes.len() - left.len();
         match parse_tls_plaintext(left) {
             Ok((_, record)) => {
-                let (kind, version, len) = (record.hdr.record_type, record.hdr.version, record.hdr.len);
-                println!("record at {at}: {kind}, {version}, {len} bytes, {} dropped", record.dropped());
+                let (record_type, version, len) =
+                    (record.hdr.record_type, record.hdr.version, record.hdr.len);
+                println!(
+                    "record at {at}: {record_type}, {version}, {len} bytes, {} dropped",
+                    record.dropped()
+                );
                 record.msg.iter().for_each(|message| show(&message));
             }
             Err(refusal) => println!("record at {at}: refused, {refusal}"),

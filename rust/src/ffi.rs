@@ -1,7 +1,7 @@
-//! The exports of the archive, and safe functions over them: all unsafe code of the crate.
+//! The exports of the archive, and safe functions over them: all unsafe code of the Rust binding.
 //!
-//! It is proved of each export that it reads nothing but the bytes and numbers lent, writes nothing but the
-//! output lent, and answers for every input.
+//! It is proved of each export that it reads nothing but the bytes and numbers lent, writes nothing
+//! but the output lent, and answers for every input.
 
 mod block;
 
@@ -18,7 +18,7 @@ extern "C" {
     fn norrabist_open_tls_plaintext(i: *const u8, i_len: usize, out: *mut usize, out_len: usize) -> u8;
     fn norrabist_parse_tls_message_handshake(i: *const u8, i_len: usize, out: *mut usize, out_len: usize) -> u8;
     fn norrabist_record_walk_next(s: *const u8, s_len: usize, at: usize, out: *mut usize, out_len: usize) -> u8;
-    fn norrabist_parse_tls_handshake_msg(kind: u8, i: *const u8, i_len: usize, len: usize, out: *mut usize, out_len: usize) -> u8;
+    fn norrabist_parse_tls_handshake_msg(msg_type: u8, i: *const u8, i_len: usize, len: usize, out: *mut usize, out_len: usize) -> u8;
     fn norrabist_parse_tls_handshake_client_hello(i: *const u8, i_len: usize, out: *mut usize, out_len: usize) -> u8;
     fn norrabist_parse_tls_handshake_server_hello(i: *const u8, i_len: usize, out: *mut usize, out_len: usize) -> u8;
     fn norrabist_parse_tls_handshake_certificaterequest(i: *const u8, i_len: usize, out: *mut usize, out_len: usize) -> u8;
@@ -37,17 +37,28 @@ extern "C" {
 pub struct Reader(unsafe extern "C" fn(*const u8, usize, *mut usize, usize) -> u8);
 
 impl Reader {
+    /// A record's header.
     pub const RECORD_HEADER: Reader = Reader(norrabist_parse_tls_record_header);
+    /// A record of any type.
     pub const RAW_RECORD: Reader = Reader(norrabist_parse_tls_raw_record);
+    /// A record whose content is encrypted.
     pub const ENCRYPTED: Reader = Reader(norrabist_parse_tls_encrypted);
-    #[allow(dead_code)] // `OPENED` tells the same and more
+    /// A handshake record. `OPENED` tells the same and more.
+    #[allow(dead_code)]
     pub const PLAINTEXT: Reader = Reader(norrabist_parse_tls_plaintext);
+    /// A handshake record and its first message.
     pub const OPENED: Reader = Reader(norrabist_open_tls_plaintext);
+    /// A message.
     pub const MESSAGE: Reader = Reader(norrabist_parse_tls_message_handshake);
+    /// The body of a ClientHello.
     pub const CLIENT_HELLO: Reader = Reader(norrabist_parse_tls_handshake_client_hello);
+    /// The body of a ServerHello.
     pub const SERVER_HELLO: Reader = Reader(norrabist_parse_tls_handshake_server_hello);
+    /// The body of a CertificateRequest.
     pub const REQUEST: Reader = Reader(norrabist_parse_tls_handshake_certificaterequest);
+    /// The body of a CertificateStatus.
     pub const STATUS: Reader = Reader(norrabist_parse_tls_handshake_certificatestatus);
+    /// The body of a NextProtocol.
     pub const NEXT_PROTOCOL: Reader = Reader(norrabist_parse_tls_handshake_next_protocol);
 
     /// What is told of `i`: as many numbers as the value has, the others 0.
@@ -72,15 +83,17 @@ pub fn walk_next<const N: usize>(content: &[u8], at: usize) -> Result<[usize; N]
 
 /// The body of a message of that type.
 #[inline]
-pub fn body<const N: usize>(kind: u8, i: &[u8], len: usize) -> Result<[usize; N], Refusal> {
+pub fn body<const N: usize>(msg_type: u8, i: &[u8], len: usize) -> Result<[usize; N], Refusal> {
     let mut told = [0; N];
     // SAFETY: each pointer goes with its length.
-    let number =
-        unsafe { norrabist_parse_tls_handshake_msg(kind, i.as_ptr(), i.len(), len, told.as_mut_ptr(), N) };
+    let number = unsafe {
+        norrabist_parse_tls_handshake_msg(msg_type, i.as_ptr(), i.len(), len, told.as_mut_ptr(), N)
+    };
     Refusal::unless_accepted(number).map(|()| told)
 }
 
-/// The message that the numbers `m` tell of, its parts within `i`. Answers how many bytes were written.
+/// The message that the numbers `m` tell of, its parts within `i`. Answers how many bytes were
+/// written.
 #[inline]
 pub fn write_message(m: &[usize], i: &[u8], out: &mut [u8]) -> Result<usize, Refusal> {
     let mut count = 0;
@@ -94,11 +107,12 @@ pub fn write_message(m: &[usize], i: &[u8], out: &mut [u8]) -> Result<usize, Ref
 
 /// A record round `msg`. Answers how many bytes were written.
 #[inline]
-pub fn write_record(kind: u8, version: u16, msg: &[u8], out: &mut [u8]) -> Result<usize, Refusal> {
+pub fn write_record(record_type: u8, version: u16, msg: &[u8], out: &mut [u8]) -> Result<usize, Refusal> {
     let mut count = 0;
     let (to, room) = (out.as_mut_ptr(), out.len());
     // SAFETY: each pointer goes with its length, and `count` is a number.
-    let number =
-        unsafe { norrabist_gen_tls_plaintext(kind, version, msg.as_ptr(), msg.len(), to, room, &mut count) };
+    let number = unsafe {
+        norrabist_gen_tls_plaintext(record_type, version, msg.as_ptr(), msg.len(), to, room, &mut count)
+    };
     Refusal::unless_accepted(number).map(|()| count)
 }

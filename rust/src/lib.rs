@@ -1,19 +1,19 @@
-//! Norrabist for Rust: a reader and writer of TLS records, handshake messages and hellos, with the names of the
-//! crate tls-parser 0.12.2, of whose parts it is a port.
+//! The Rust binding of Norrabist: a reader and writer of TLS records, handshake messages and
+//! hellos, by the names of tls-parser 0.12.2, of whose parts it is a port.
 //!
-//! The work is done by a proved archive (`rust/archive` makes it): for every input, each function answers a value or
-//! one [`Refusal`]. This crate turns its numbers into borrowed values, and never panics. What is read is a part of
-//! the caller's bytes; nothing is copied.
+//! The work is done by a proved archive (`rust/archive` makes it): for every input, each function
+//! answers a value or one [`Refusal`]. The binding turns its numbers into borrowed values, and
+//! never panics. What is read is a part of the caller's bytes; nothing is copied.
 //!
-//! A reader gives the rest of the bytes and the value ([`Read`]). Where the original has a `Vec` there is a [`List`].
-//! A hello also has a `tail`, what follows it: where its extensions are absent, the tail may be a block that was cut
-//! off.
+//! A reader gives the rest of the bytes and the value ([`Read`]). Where tls-parser has a `Vec`
+//! there is a [`List`]. A hello also has a `tail`, what follows it: where its extensions are
+//! absent, the tail may be a block that was cut off.
 //!
 //! ```
 //! use norrabist::{parse_tls_plaintext, TlsMessageHandshake, TlsVersion};
 //!
 //! // a record with a ClientHello that offers two ciphers, the end of its extension block cut off
-//! let mut record = vec![0x16, 3, 1, 0, 49, 1, 0, 0, 45, 3, 3];
+//! let mut record = vec![0x16, 0x03, 0x01, 0, 49, 0x01, 0, 0, 45, 0x03, 0x03];
 //! record.extend([7; 32]);
 //! record.extend([0, 0, 4, 0xc0, 0x2f, 0x00, 0x9c, 1, 0, 0, 5]);
 //!
@@ -45,12 +45,14 @@
 
 mod ffi;
 mod handshake;
+mod kinds;
 mod lists;
 mod message;
 mod messages;
 mod newtypes;
 mod record;
 mod refusal;
+mod table;
 mod told;
 mod write;
 
@@ -58,9 +60,9 @@ pub use handshake::*;
 pub use lists::{Bytes, Item, List, Numbers, Parts};
 pub use message::*;
 pub use messages::{record_walk_next, Heads, Messages, TlsMessageHead, TlsMessages};
-pub use newtypes::*;
 pub use record::*;
 pub use refusal::Refusal;
+pub use table::*;
 pub use write::*;
 
 /// What a reader gives: the rest of the bytes and the value, or the refusal.

@@ -1,28 +1,29 @@
-//! Readers of handshake messages and of their bodies.
+//! Readers of handshake messages (RULES 5) and of their bodies (RULES 3 and 4).
 //!
-//! The functions of bodies are given a body alone, without type and length, and hand back what they leave over.
+//! The functions of bodies are given a body alone, without type and length, and hand back what they
+//! leave over.
 
 use crate::ffi::{self, Reader};
 use crate::handshake::*;
-use crate::newtypes::TlsHandshakeType;
+use crate::table::{TlsHandshakeType, MET_NUMBERS};
 use crate::told::{self, part, rest};
 use crate::Read;
 
 /// Reads the message at the front: type, length and body.
 ///
-/// Refuses: `Incomplete`, where type, length or body are not all there; then by the body, or `Switch`.
+/// Refuses: `Incomplete`, where type, length or body are not all there; then by the body, or
+/// `Switch`.
 #[inline]
 pub fn parse_tls_message_handshake(i: &[u8]) -> Read<'_, TlsMessageHandshake<'_>> {
-    let [start, len, next, message @ ..] = Reader::MESSAGE.read::<18>(i)?;
+    let [start, len, next, message @ ..] = Reader::MESSAGE.read::<MET_NUMBERS>(i)?;
     let message = told::message(&message, part(i, start, len))?;
     Ok((rest(i, next), message))
 }
 
 /// The body of a message of that type.
 #[inline]
-pub(crate) fn open(kind: u8, i: &[u8], len: usize) -> Read<'_, TlsMessageHandshake<'_>> {
-    let told = ffi::body(kind, i, len)?;
-    Ok((told::left(&told, i), told::message(&told, i)?))
+fn open(msg_type: TlsHandshakeType, i: &[u8], len: usize) -> Read<'_, TlsMessageHandshake<'_>> {
+    told::opened(&ffi::body(msg_type.0, i, len)?, i)
 }
 
 /// Reads the body of a ClientHello.
@@ -30,7 +31,7 @@ pub(crate) fn open(kind: u8, i: &[u8], len: usize) -> Read<'_, TlsMessageHandsha
 /// Refuses: `Incomplete`, `Verify`, `LengthValue`.
 #[inline]
 pub fn parse_tls_handshake_client_hello(i: &[u8]) -> Read<'_, TlsClientHelloContents<'_>> {
-    Ok(told::client_hello(&Reader::CLIENT_HELLO.read(i)?, i))
+    Ok(told::contents(&Reader::CLIENT_HELLO.read(i)?, i))
 }
 
 /// Reads the body of a ServerHello, but not of draft 18.
@@ -38,7 +39,7 @@ pub fn parse_tls_handshake_client_hello(i: &[u8]) -> Read<'_, TlsClientHelloCont
 /// Refuses: `Incomplete`, `Tag`, `Verify`.
 #[inline]
 pub fn parse_tls_handshake_server_hello(i: &[u8]) -> Read<'_, TlsServerHelloContents<'_>> {
-    Ok(told::server_hello(&Reader::SERVER_HELLO.read(i)?, i))
+    Ok(told::contents(&Reader::SERVER_HELLO.read(i)?, i))
 }
 
 /// Reads the body of a CertificateRequest: the long form, or else the short one.
@@ -46,7 +47,7 @@ pub fn parse_tls_handshake_server_hello(i: &[u8]) -> Read<'_, TlsServerHelloCont
 /// Refuses: `Complete`.
 #[inline]
 pub fn parse_tls_handshake_certificaterequest(i: &[u8]) -> Read<'_, TlsCertificateRequestContents<'_>> {
-    Ok(told::request(&Reader::REQUEST.read(i)?, i))
+    Ok(told::contents(&Reader::REQUEST.read(i)?, i))
 }
 
 /// Reads the body of a CertificateStatus.
@@ -54,7 +55,7 @@ pub fn parse_tls_handshake_certificaterequest(i: &[u8]) -> Read<'_, TlsCertifica
 /// Refuses: `Incomplete`.
 #[inline]
 pub fn parse_tls_handshake_certificatestatus(i: &[u8]) -> Read<'_, TlsCertificateStatusContents<'_>> {
-    Ok(told::status(&Reader::STATUS.read(i)?, i))
+    Ok(told::contents(&Reader::STATUS.read(i)?, i))
 }
 
 /// Reads the body of a NextProtocol.
@@ -62,7 +63,7 @@ pub fn parse_tls_handshake_certificatestatus(i: &[u8]) -> Read<'_, TlsCertificat
 /// Refuses: `Incomplete`.
 #[inline]
 pub fn parse_tls_handshake_next_protocol(i: &[u8]) -> Read<'_, TlsNextProtocolContent<'_>> {
-    Ok(told::next_protocol(&Reader::NEXT_PROTOCOL.read(i)?, i))
+    Ok(told::contents(&Reader::NEXT_PROTOCOL.read(i)?, i))
 }
 
 /// Readers of bodies by type, given the bytes alone.
@@ -70,7 +71,7 @@ macro_rules! bodies {
     ($($(#[$doc:meta])* $name:ident: $kind:ident;)*) => {$(
         $(#[$doc])*
         pub fn $name(i: &[u8]) -> Read<'_, TlsMessageHandshake<'_>> {
-            open(TlsHandshakeType::$kind.0, i, i.len())
+            open(TlsHandshakeType::$kind, i, i.len())
         }
     )*};
 }
@@ -80,7 +81,7 @@ macro_rules! sized_bodies {
     ($($(#[$doc:meta])* $name:ident: $kind:ident;)*) => {$(
         $(#[$doc])*
         pub fn $name(i: &[u8], len: usize) -> Read<'_, TlsMessageHandshake<'_>> {
-            open(TlsHandshakeType::$kind.0, i, len)
+            open(TlsHandshakeType::$kind, i, len)
         }
     )*};
 }

@@ -1,10 +1,10 @@
-//! The messages of a record's content, one after the other.
+//! The messages of a record's content, one after the other (RULES 6).
 
 use crate::ffi::{self, Block, Lister};
 use crate::handshake::TlsMessageHandshake;
-use crate::newtypes::TlsHandshakeType;
 use crate::refusal::Refusal;
-use crate::told::{client_key, message, part, server_key};
+use crate::table::{TlsHandshakeType, MET_NUMBERS};
+use crate::told::{message, part};
 use std::fmt;
 use std::iter::FusedIterator;
 
@@ -33,7 +33,8 @@ impl<'a> TlsMessages<'a> {
         TlsMessages { content, first: None }
     }
 
-    /// The messages of a record that was opened: the first, its body, where the second begins, and how many there are.
+    /// The messages of a record that was opened: the first, its body, where the second begins, and
+    /// how many there are.
     #[inline]
     pub(crate) fn opened(
         content: &'a [u8],
@@ -117,33 +118,10 @@ pub struct TlsMessageHead<'a> {
     pub body: &'a [u8],
 }
 
-impl<'a> TlsMessageHead<'a> {
-    /// Hands the message on to `then`. Some bodies are all that there is to it; the others are opened.
-    ///
-    /// Each kind has a call of its own, so that a caller who looks at the kind need not do so again.
-    #[inline]
-    fn hand_on<B>(self, so_far: B, then: &mut impl FnMut(B, TlsMessageHandshake<'a>) -> B) -> B {
-        let body = self.body;
-        match self.kind {
-            TlsHandshakeType::HelloRequest => then(so_far, TlsMessageHandshake::HelloRequest),
-            TlsHandshakeType::EndOfEarlyData => then(so_far, TlsMessageHandshake::EndOfEarlyData),
-            TlsHandshakeType::ServerKeyExchange => then(so_far, server_key(body)),
-            TlsHandshakeType::ServerDone => then(so_far, TlsMessageHandshake::ServerDone(body)),
-            TlsHandshakeType::CertificateVerify => then(so_far, TlsMessageHandshake::CertificateVerify(body)),
-            TlsHandshakeType::ClientKeyExchange => then(so_far, client_key(body)),
-            TlsHandshakeType::Finished => then(so_far, TlsMessageHandshake::Finished(body)),
-            TlsHandshakeType(kind) => match opened(kind, body) {
-                Some(message) => then(so_far, message),
-                None => so_far,
-            },
-        }
-    }
-}
-
 /// The message of a head that was told, which can be opened.
 #[inline(never)]
-fn opened(kind: u8, body: &[u8]) -> Option<TlsMessageHandshake<'_>> {
-    message(&ffi::body(kind, body, body.len()).ok()?, body).ok()
+pub(crate) fn opened(kind: TlsHandshakeType, body: &[u8]) -> Option<TlsMessageHandshake<'_>> {
+    message(&ffi::body(kind.0, body, body.len()).ok()?, body).ok()
 }
 
 /// Hands out messages that are not opened.
@@ -210,11 +188,12 @@ impl<'a> Iterator for Messages<'a> {
 
 impl FusedIterator for Messages<'_> {}
 
-/// The message that begins at byte `at` of a record's content, and the byte at which the next one begins.
+/// The message that begins at byte `at` of a record's content, and the byte at which the next one
+/// begins.
 ///
 /// Refuses: `NoSuch`, where none that can be opened begins there.
 #[inline]
 pub fn record_walk_next(content: &[u8], at: usize) -> Result<(TlsMessageHandshake<'_>, usize), Refusal> {
-    let [start, len, next, told @ ..] = ffi::walk_next::<18>(content, at)?;
+    let [start, len, next, told @ ..] = ffi::walk_next::<MET_NUMBERS>(content, at)?;
     Ok((message(&told, part(content, start, len))?, next))
 }

@@ -1,13 +1,10 @@
-//! Records.
+//! Records (RULES 6).
 
 use crate::ffi::Reader;
 use crate::messages::TlsMessages;
-use crate::newtypes::{TlsRecordType, TlsVersion};
+use crate::table::{TlsRecordType, TlsVersion, OPENED_NUMBERS, RECORD_HEADER_LEN};
 use crate::told::{message, part, rest};
 use crate::Read;
-
-/// The longest content that a record may have.
-pub const MAX_RECORD_LEN: u16 = (1 << 14) + 256;
 
 /// The five bytes before a record's content.
 #[derive(Clone, Copy, Debug, PartialEq, Eq)]
@@ -82,8 +79,8 @@ fn header(record_type: usize, version: usize, len: usize) -> TlsRecordHeader {
 /// Refuses: `Incomplete`.
 #[inline]
 pub fn parse_tls_record_header(i: &[u8]) -> Read<'_, TlsRecordHeader> {
-    let [kind, version, len] = Reader::RECORD_HEADER.read(i)?;
-    Ok((rest(i, 5), header(kind, version, len)))
+    let [record_type, version, len] = Reader::RECORD_HEADER.read(i)?;
+    Ok((rest(i, RECORD_HEADER_LEN), header(record_type, version, len)))
 }
 
 /// Reads a record of any type.
@@ -91,8 +88,11 @@ pub fn parse_tls_record_header(i: &[u8]) -> Read<'_, TlsRecordHeader> {
 /// Refuses: `Incomplete`, `TooLarge`.
 #[inline]
 pub fn parse_tls_raw_record(i: &[u8]) -> Read<'_, TlsRawRecord<'_>> {
-    let [kind, version, len, data, data_len, next] = Reader::RAW_RECORD.read(i)?;
-    Ok((rest(i, next), TlsRawRecord { hdr: header(kind, version, len), data: part(i, data, data_len) }))
+    let [record_type, version, len, data, data_len, next] = Reader::RAW_RECORD.read(i)?;
+    Ok((
+        rest(i, next),
+        TlsRawRecord { hdr: header(record_type, version, len), data: part(i, data, data_len) },
+    ))
 }
 
 /// Reads a record of any type whose content is encrypted.
@@ -100,22 +100,23 @@ pub fn parse_tls_raw_record(i: &[u8]) -> Read<'_, TlsRawRecord<'_>> {
 /// Refuses: `Incomplete`, `TooLarge`.
 #[inline]
 pub fn parse_tls_encrypted(i: &[u8]) -> Read<'_, TlsEncrypted<'_>> {
-    let [kind, version, len, blob, blob_len, next] = Reader::ENCRYPTED.read(i)?;
+    let [record_type, version, len, blob, blob_len, next] = Reader::ENCRYPTED.read(i)?;
     let msg = TlsEncryptedContent { blob: part(i, blob, blob_len) };
-    Ok((rest(i, next), TlsEncrypted { hdr: header(kind, version, len), msg }))
+    Ok((rest(i, next), TlsEncrypted { hdr: header(record_type, version, len), msg }))
 }
 
 /// Reads a handshake record and opens its messages: at least the first.
 ///
-/// Refuses: `Incomplete`, `TooLarge`, `Elsewhere`, `Switch`; `Complete` where the first message is incomplete,
-/// else that message's refusal.
+/// Refuses: `Incomplete`, `TooLarge`, `Elsewhere`, `Switch`; `Complete` where the first message is
+/// incomplete, else that message's refusal.
 #[inline]
 pub fn parse_tls_plaintext(i: &[u8]) -> Read<'_, TlsPlaintext<'_>> {
-    let [kind, version, len, msg, msg_len, count, dropped, next, told @ ..] = Reader::OPENED.read::<26>(i)?;
+    let [record_type, version, len, msg, msg_len, count, dropped, next, told @ ..] =
+        Reader::OPENED.read::<OPENED_NUMBERS>(i)?;
     let [body, body_len, second, told @ ..] = told;
     let content = part(i, msg, msg_len);
     let body = part(content, body, body_len);
     let first = message(&told, body)?;
     let msg = TlsMessages::opened(content, first, body, second, count);
-    Ok((rest(i, next), TlsPlaintext { hdr: header(kind, version, len), msg, count, dropped }))
+    Ok((rest(i, next), TlsPlaintext { hdr: header(record_type, version, len), msg, count, dropped }))
 }

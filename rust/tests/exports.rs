@@ -1,5 +1,7 @@
-//! `norrabist.h` and the crate declare what the archive exports, by the same names and types.
+//! `norrabist.h` and the Rust binding declare what the archive exports, by the same names and
+//! types, and have the same numbers for types, versions and limits.
 
+use norrabist::*;
 use std::path::Path;
 
 const HERE: &str = env!("CARGO_MANIFEST_DIR");
@@ -62,16 +64,65 @@ fn exports() -> Vec<String> {
     declarations(&all, "pub extern \"C\" fn ")
 }
 
+fn header() -> String {
+    text(&Path::new(HERE).join("norrabist.h"))
+}
+
+/// The constants of the header whose numbers stand there in hex, without `NORRABIST_`.
+fn numbers(header: &str) -> Vec<(&str, u32)> {
+    let constants = header.lines().filter_map(|line| line.trim().strip_prefix("NORRABIST_"));
+    let rows = constants.filter_map(|row| row.trim_end_matches(',').split_once(" = 0x"));
+    rows.map(|(name, hex)| (name, u32::from_str_radix(hex, 16).expect("hex"))).collect()
+}
+
+/// `CLIENT_HELLO` of `ClientHello`.
+fn in_capitals(name: &str) -> String {
+    let letters = name.chars().enumerate();
+    letters.fold(String::new(), |mut all, (k, letter)| {
+        all.extend((k > 0 && letter.is_ascii_uppercase()).then_some('_'));
+        all.push(letter.to_ascii_uppercase());
+        all
+    })
+}
+
+/// One enum of the header has these numbers, by the names that the binding has for them.
+fn has(of: &str, known: Vec<u16>, name: impl Fn(u16) -> String) {
+    let header = header();
+    let (_, rows) = header.split_once(&format!("enum norrabist_{of} {{")).expect("an enum");
+    let (rows, _) = rows.split_once('}').expect("its end");
+    let known: Vec<_> = known.into_iter().map(|n| (in_capitals(&name(n)), u32::from(n))).collect();
+    let told: Vec<_> = numbers(rows).into_iter().map(|(name, n)| (name.to_string(), n)).collect();
+    assert_eq!(told, known, "{of}");
+}
+
+/// The numbers that a reader knows: those that it does not refuse so.
+fn known(most: u16, unknown: Refusal, refused: impl Fn(u16) -> Option<Refusal>) -> Vec<u16> {
+    (0..=most).filter(|n| refused(*n) != Some(unknown)).collect()
+}
+
+#[test]
+fn the_header_has_the_numbers_of_the_binding() {
+    let records = known(0xff, Refusal::Switch, |n| parse_tls_plaintext(&[n as u8, 0, 0, 0, 0]).err());
+    has("record_type", records, |n| TlsRecordType(n as u8).to_string());
+    let versions =
+        known(0xffff, Refusal::Tag, |n| parse_tls_handshake_msg_server_hello(&n.to_be_bytes()).err());
+    has("version", versions, |n| TlsVersion(n).to_string());
+    let kinds = known(0xff, Refusal::Switch, |n| parse_tls_message_handshake(&[n as u8, 0, 0, 0]).err());
+    has("kind", kinds, |n| TlsHandshakeType(n as u8).to_string());
+    assert!(numbers(&header()).contains(&("MAX_RECORD_LEN", MAX_RECORD_LEN.into())));
+}
+
 #[test]
 fn the_header_declares_the_exports() {
-    let header = text(&Path::new(HERE).join("norrabist.h"));
+    let header = header();
     // declarations are what ends with `);` and stands behind a comment
     let declared = header.split(");").filter_map(|d| d.rsplit_once("*/\n"));
     let declared = declared.map(|(_, d)| d.split_whitespace().collect::<Vec<_>>().join(" ") + ")");
+    let declared = declared.map(|d| d.replace("( ", "("));
     assert_eq!(sorted(declared.filter(|d| d.contains(" norrabist_")).collect()), exports());
 }
 
 #[test]
-fn the_crate_declares_the_exports() {
+fn the_binding_declares_the_exports() {
     assert_eq!(declarations(&text(&Path::new(HERE).join("src/ffi.rs")), "    fn "), exports());
 }

@@ -5,9 +5,9 @@ use std::process::Command;
 
 const HERE: &str = env!("CARGO_MANIFEST_DIR");
 
-/// kind, version, random, id, ciphers, methods, extensions, tail; the ciphers; how many bytes were written back; the
-/// refusal of one byte.
-const PRINTED: &str = "1 771 2 32 0 0 0 37 4 42 1 0 0 0 43 | c02c | 009c | 49 bytes | 1\n";
+/// Random, id, ciphers, methods, extensions, tail; the ciphers; how many bytes were written back;
+/// the refusal of one byte.
+const PRINTED: &str = "2 32 0 0 0 37 4 42 1 0 0 0 43 | c02c | 009c | 49 bytes | 1\n";
 
 #[test]
 fn a_c_program_links_and_answers() {

@@ -57,7 +57,7 @@ fn numbers_from_the_middle() {
 #[test]
 fn ciphers_of_a_hello() {
     for n in [0, 1, 63, 64, 65, 200] {
-        let body = [&[3, 3][..], &[0; 33], &counted(2, &numbers(n)), &[2, 0, 1]].concat();
+        let body = [&[0x03, 0x03][..], &[0; 33], &counted(2, &numbers(n)), &[2, 0, 1]].concat();
         let (_, hello) = parse_tls_handshake_client_hello(&body).expect("a hello");
         assert_eq!((hello.ciphers.len(), hello.ciphers.as_bytes()), (n, &numbers(n)[..]));
         assert_eq!(hello.ciphers.iter().last().map(|c| c.0), n.checked_sub(1).map(|k| k as u16 * 257 + 1));
@@ -100,14 +100,29 @@ fn names_and_pairs() {
     }
 }
 
+/// The kinds whose value is the body or nothing.
+const WHOLE: [TlsHandshakeType; 7] = [
+    TlsHandshakeType::HelloRequest,
+    TlsHandshakeType::EndOfEarlyData,
+    TlsHandshakeType::ServerKeyExchange,
+    TlsHandshakeType::ServerDone,
+    TlsHandshakeType::CertificateVerify,
+    TlsHandshakeType::ClientKeyExchange,
+    TlsHandshakeType::Finished,
+];
+
+fn framed(msg_type: TlsHandshakeType, body: &[u8]) -> Vec<u8> {
+    [vec![msg_type.0], counted(3, body)].concat()
+}
+
 /// A message of each kind whose value is its body or nothing, and some that are opened, by turns.
 fn message(k: usize) -> Vec<u8> {
     let body = vec![k as u8; k % 7];
     match k % 10 {
-        0 => [vec![24], counted(3, &[k as u8])].concat(),
-        1 => [vec![11], counted(3, &counted(3, &body))].concat(),
-        2 => [vec![22, 0, 0, 4 + body.len() as u8, 1], counted(3, &body)].concat(),
-        n => [vec![[0, 5, 12, 14, 15, 16, 20][n - 3]], counted(3, &body)].concat(),
+        0 => framed(TlsHandshakeType::KeyUpdate, &[k as u8]),
+        1 => framed(TlsHandshakeType::Certificate, &counted(3, &body)),
+        2 => framed(TlsHandshakeType::CertificateStatus, &[vec![1], counted(3, &body)].concat()),
+        n => framed(WHOLE[n - 3], &body),
     }
 }
 
@@ -115,10 +130,10 @@ fn message(k: usize) -> Vec<u8> {
 fn messages() {
     for n in [1, 2, 15, 16, 17, 31, 32, 33, 50] {
         // nothing, an unknown type, half a head
-        for dropped in [&[][..], &[3, 0, 0, 0], &[20, 0]] {
+        for dropped in [&[][..], &[0x03, 0, 0, 0], &[0x14, 0]] {
             let all: Vec<Vec<u8>> = (0..n).map(message).collect();
             let content = [&all.concat(), dropped].concat();
-            let record = [&[0x16, 3, 3][..], &counted(2, &content), &[0x17]].concat();
+            let record = [&[0x16, 0x03, 0x03][..], &counted(2, &content), &[0x17]].concat();
             let (rest, record) = parse_tls_plaintext(&record).expect("a record");
             assert_eq!((record.count(), record.dropped(), rest), (n, dropped.len(), &[0x17][..]));
             let alone = all.iter().map(|m| parse_tls_message_handshake(m).expect("a message").1);
@@ -133,7 +148,7 @@ fn messages() {
 
 #[test]
 fn content_without_messages() {
-    for content in [&[][..], &[1, 0, 0, 0], &[3, 0, 0, 0], &[0, 0, 0]] {
+    for content in [&[][..], &[0x01, 0, 0, 0], &[0x03, 0, 0, 0], &[0, 0, 0]] {
         let messages = TlsMessages::new(content);
         assert!(messages.is_empty() && messages.iter().next().is_none() && messages.heads().next().is_none());
         assert_eq!((messages.len(), record_walk_next(content, 0)), (0, Err(Refusal::NoSuch)));

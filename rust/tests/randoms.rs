@@ -4,7 +4,7 @@ use norrabist::*;
 
 /// A made-up hello.
 fn hello(random: &[u8]) -> TlsClientHelloContents<'_> {
-    TlsClientHelloContents::new(0x0303, random, None, List::new(&[]), List::new(&[]), None)
+    TlsClientHelloContents::new(TlsVersion::Tls12.0, random, None, List::new(&[]), List::new(&[]), None)
 }
 
 #[test]
@@ -30,7 +30,7 @@ fn largest() {
 #[test]
 fn read() {
     let mut body = [0; 38];
-    body[..6].copy_from_slice(&[3, 3, 0, 0, 0, 1]);
+    body[..6].copy_from_slice(&[0x03, 0x03, 0, 0, 0, 1]);
     let (_, hello) = parse_tls_handshake_client_hello(&body).expect("a hello");
     assert_eq!((hello.rand_time(), hello.gmt_unix_time()), (0, 1));
     assert_eq!(hello.rand_bytes().as_ptr_range(), body[6..34].as_ptr_range());

@@ -1,4 +1,4 @@
-//! The original's recorded answers, given by the port too.
+//! tls-parser's recorded answers, given by Norrabist too.
 
 mod support;
 
@@ -6,7 +6,7 @@ use norrabist::{parse_tls_plaintext, record_walk_next, Refusal};
 use std::io::{self, Write};
 use support::{answer, functions, text, writing};
 
-/// The recorded list, and the smallest inputs at which the original and RFC 5246 part.
+/// The recorded list, and the smallest inputs at which tls-parser and RFC 5246 part.
 const LIST: &str = concat!(env!("CARGO_MANIFEST_DIR"), "/../compare/recorded.txt");
 const DIFFERENCES: &str = concat!(env!("CARGO_MANIFEST_DIR"), "/../compare/differences.txt");
 
@@ -24,7 +24,7 @@ fn differences_are_as_listed() {
 /// How many cases there are of each function; none of them differs.
 fn replay(name: &str, path: &str, at_least: usize) -> Vec<usize> {
     let list = std::fs::read_to_string(path).unwrap_or_else(|e| panic!("{path}: {e}"));
-    let mut counts = vec![0; functions().len()];
+    let mut counts = vec![0; functions().count()];
     let mut faults = Vec::new();
     for (k, text) in list.lines().enumerate().filter(|(_, text)| !text.starts_with('#')) {
         match compare(text) {
@@ -43,7 +43,7 @@ fn replay(name: &str, path: &str, at_least: usize) -> Vec<usize> {
 /// The place of the function among all, or what differs.
 fn compare(line: &str) -> Result<usize, String> {
     let case = text::line(line).ok_or("cannot be read")?;
-    let place = functions().iter().position(|name| *name == case.function).ok_or("no such function")?;
+    let place = functions().position(|name| name == case.function).ok_or("no such function")?;
     let got = answer(case.function, case.len, &case.input);
     if got != case.answer {
         let k = got.iter().zip(&case.answer).take_while(|(a, b)| a == b).count();
@@ -59,8 +59,8 @@ fn compare(line: &str) -> Result<usize, String> {
     Ok(place)
 }
 
-/// Whatever the output held, its front is the text and the rest as it was; one byte less is no room, and a refusal
-/// changes nothing.
+/// Whatever the output held, its front is the text and the rest as it was; one byte less is no
+/// room, and a refusal changes nothing.
 fn outputs(name: &str, input: &[u8], answer: &[u64]) -> Result<(), String> {
     let text: Vec<u8> = answer.iter().skip(2).map(|b| *b as u8).collect();
     for fill in [0x00, 0xa5, 0xff] {
@@ -83,8 +83,8 @@ fn outputs(name: &str, input: &[u8], answer: &[u64]) -> Result<(), String> {
     Ok(())
 }
 
-/// The messages of a record are the same by their list, by their heads and by the walk, and end before the bytes
-/// dropped.
+/// The messages of a record are the same by their list, by their heads and by the walk, and end
+/// before the bytes dropped.
 fn walks(input: &[u8]) -> Result<(), String> {
     let Ok((_, record)) = parse_tls_plaintext(input) else { return Ok(()) };
     let content = record.msg.as_bytes();

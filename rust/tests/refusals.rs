@@ -21,7 +21,7 @@ const NAMES: [&str; 12] = [
 fn hello<'a>() -> TlsClientHelloContents<'a> {
     let ciphers = List::new(&[0xc0, 0x2c, 0xc0, 0x30]);
     TlsClientHelloContents::new(
-        0x0303,
+        TlsVersion::Tls12.0,
         &[7; 32],
         Some(&[5; 8]),
         ciphers,
@@ -32,7 +32,7 @@ fn hello<'a>() -> TlsClientHelloContents<'a> {
 
 /// A ClientHello body up to the id's length, and what follows.
 fn client(rest: &[u8]) -> Option<Refusal> {
-    let body = [&[3, 3][..], &[0; 32], rest].concat();
+    let body = [&[0x03, 0x03][..], &[0; 32], rest].concat();
     parse_tls_handshake_client_hello(&body).err()
 }
 
@@ -43,15 +43,15 @@ fn refused() -> [Option<Refusal>; 12] {
     let mut out = [0; 100];
     [
         client(&[]),
-        parse_tls_plaintext(&[0x16, 3, 3, 0, 4, 1, 0, 0, 0]).err(),
+        parse_tls_plaintext(&[0x16, 0x03, 0x03, 0, 4, 0x01, 0, 0, 0]).err(),
         client(&[33]),
         client(&[0, 0, 1, 0]),
-        parse_tls_handshake_server_hello(&[3, 4]).err(),
-        parse_tls_message_handshake(&[3, 0, 0, 0]).err(),
-        parse_tls_raw_record(&[0x16, 3, 3, 0x41, 0x01]).err(),
+        parse_tls_handshake_server_hello(&[0x03, 0x04]).err(),
+        parse_tls_message_handshake(&[0x03, 0, 0, 0]).err(),
+        parse_tls_raw_record(&[0x16, 0x03, 0x03, 0x41, 0x01]).err(),
         gen_tls_clienthello(&short, &mut out).err(),
         gen_tls_hellorequest(&mut out[..3]).err(),
-        parse_tls_plaintext(&[0x15, 3, 3, 0, 2, 1, 0]).err(),
+        parse_tls_plaintext(&[0x15, 0x03, 0x03, 0, 2, 1, 0]).err(),
         record_walk_next(&[0, 0, 0, 0], 4).err(),
         gen_tls_messagehandshake(&unwritten, &mut out).err(),
     ]
@@ -108,6 +108,11 @@ fn parts_that_are_too_long() {
     assert_eq!(gen_tls_clientkeyexchange(&TlsClientKeyExchangeContents::Dh(word), &mut out), bad);
     assert_eq!(gen_tls_clientkeyexchange(&TlsClientKeyExchangeContents::Unknown(&long), &mut out), bad);
     assert_eq!(gen_tls_finished(&long, &mut out), bad);
-    assert_eq!(gen_tls_plaintext(&hdr, &long[..16_641], &mut out), Err(Refusal::TooLarge));
+    let unwritten = TlsMessageHandshake::ServerDone(&long);
+    assert_eq!(gen_tls_messagehandshake(&unwritten, &mut out), Err(Refusal::NotYetImplemented));
+    assert_eq!(
+        gen_tls_plaintext(&hdr, &long[..usize::from(MAX_RECORD_LEN) + 1], &mut out),
+        Err(Refusal::TooLarge)
+    );
     assert!(out.iter().all(|b| *b == 0xa5), "a refused writing changed the output");
 }

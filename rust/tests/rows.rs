@@ -1,4 +1,4 @@
-//! The scope paper's table "Readings to keep on the bench", row by row.
+//! The rows of RULES 8, one by one.
 
 mod support;
 

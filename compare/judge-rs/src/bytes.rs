@@ -1,5 +1,7 @@
 //! The parts from which inputs are put together.
 
+use crate::table::version::TLS12;
+
 /// The last `width` bytes of n, big-endian.
 pub fn be(width: usize, n: usize) -> Vec<u8> {
     (n as u64).to_be_bytes()[8 - width..].to_vec()
@@ -14,8 +16,8 @@ pub fn counting(n: usize) -> Vec<u8> {
     (1..=n).map(|k| k as u8).collect()
 }
 
-/// Bytes that count while they are few; of many only the first and the last three
-/// differ from a run.
+/// Bytes that count while they are few; of many only the first and the last three differ from a
+/// run.
 pub fn telling(n: usize) -> Vec<u8> {
     if n <= 260 {
         return counting(n);
@@ -37,12 +39,14 @@ pub fn announced(width: usize, n: usize, body: &[u8]) -> Vec<u8> {
     join(&[&be(width, n), body])
 }
 
-pub fn message(kind: u8, body: &[u8]) -> Vec<u8> {
-    join(&[&[kind], &counted(3, body)])
+/// A message of that type.
+pub fn message(handshake_type: u8, body: &[u8]) -> Vec<u8> {
+    join(&[&[handshake_type], &counted(3, body)])
 }
 
-pub fn record(kind: u8, body: &[u8]) -> Vec<u8> {
-    join(&[&[kind, 3, 3], &counted(2, body)])
+/// A record of that type, of TLS 1.2.
+pub fn record(record_type: u8, body: &[u8]) -> Vec<u8> {
+    join(&[&[record_type], &TLS12.to_be_bytes(), &counted(2, body)])
 }
 
 /// Reads hex with any white space between bytes.

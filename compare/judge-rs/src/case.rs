@@ -1,6 +1,6 @@
 //! A case: a function, its length argument if it takes one, and its input.
 
-use crate::{functions, text};
+use crate::{table, text};
 use std::fmt;
 use std::str::FromStr;
 
@@ -26,12 +26,12 @@ impl FromStr for Case {
         let case = line.split(" = ").next().unwrap_or(line);
         let mut words = case.split(' ');
         let name = words.next().unwrap_or("");
-        let function = functions::known(name).ok_or(format!("no function {name}"))?;
+        let function = table::known(name).ok_or(format!("no function {name}"))?;
         let length = match words.next() {
             Some("-") => None,
             word => Some(word.and_then(|w| w.parse().ok()).ok_or("no length")?),
         };
-        if length.is_some() != functions::is_sized(function) {
+        if length.is_some() != table::is_sized(function) {
             return Err("a length where none goes, or none".into());
         }
         Ok(Case { function, length, input: text::read_input(words)? })

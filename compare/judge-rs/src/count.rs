@@ -1,18 +1,18 @@
 //! How many answered cases there are, by function and by first number.
 
-use crate::functions::{READING, WRITING};
+use crate::table::{refusal, READING, WRITING};
 
 /// The first numbers of answers, and what they are.
-const HEADS: [(usize, &str); 9] = [
+const HEADS: [(u64, &str); 9] = [
     (0, "accepted"),
-    (1, "Incomplete"),
-    (2, "Complete"),
-    (3, "Verify"),
-    (4, "LengthValue"),
-    (5, "Tag"),
-    (6, "Switch"),
-    (7, "TooLarge"),
-    (12, "NotYet"),
+    (refusal::INCOMPLETE, "Incomplete"),
+    (refusal::COMPLETE, "Complete"),
+    (refusal::VERIFY, "Verify"),
+    (refusal::LENGTH_VALUE, "LengthValue"),
+    (refusal::TAG, "Tag"),
+    (refusal::SWITCH, "Switch"),
+    (refusal::TOO_LARGE, "TooLarge"),
+    (refusal::NOT_YET_IMPLEMENTED, "NotYet"),
 ];
 const COLUMNS: usize = HEADS.len();
 const ROWS: usize = READING.len() + WRITING.len();
@@ -36,7 +36,7 @@ pub fn table(lines: &[String]) -> String {
 fn place(line: &str) -> Option<(usize, usize)> {
     let (case, answer) = line.split_once(" = ")?;
     let name = case.split(' ').next()?;
-    let number: usize = answer.split(' ').next()?.parse().ok()?;
+    let number: u64 = answer.split(' ').next()?.parse().ok()?;
     let row = READING.iter().chain(&WRITING).position(|known| *known == name)?;
     Some((row, HEADS.iter().position(|(n, _)| *n == number)?))
 }

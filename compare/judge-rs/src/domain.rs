@@ -1,57 +1,61 @@
-//! What may be written: the comparison is of this alone, since outside it the port
-//! refuses and the crate writes a wrong length (`judge truncations`).
+//! What may be written (RULES 7): the comparison is of this alone, since outside it Norrabist
+//! refuses and tls-parser writes a wrong length (`judge truncations`).
 
 use crate::made::{Client, Draft, Key, Record, Server};
-use crate::{case::Case, functions::*, write};
+use crate::{case::Case, table, table::limit, write};
 
-/// The bytes that the port's program has for an input, and for what is written.
+/// No input of a case is longer, and no text that is written.
 pub const ROOM: usize = 147_456;
 
 /// Panics on a case of a writer that is outside.
 pub fn hold(case: &Case) {
     assert!(case.input.len() <= ROOM, "an input of {} bytes", case.input.len());
-    assert!(inside(case.function, &case.input), "not to be written: {}", case.function);
+    assert!(table::is_inside(case.function, &case.input), "not to be written: {}", case.function);
 }
 
-fn inside(name: &str, i: &[u8]) -> bool {
-    match name {
-        GEN_CLIENT_HELLO => client(&Client::read(i)),
-        GEN_SERVER_HELLO => server(&Server::read(i)),
-        GEN_DRAFT_18 => draft(&Draft::read(i)),
-        GEN_CLIENT_KEY => key(&Key::read(i)),
-        GEN_HELLO_REQUEST => i.is_empty(),
-        GEN_FINISHED => i.len() <= 0xff_ffff,
-        GEN_MESSAGE => write::message(i).is_some(),
-        GEN_PLAINTEXT => record(&Record::read(i)),
-        _ => false,
-    }
+fn random(part: &[u8]) -> bool {
+    part.len() == limit::RANDOM
 }
 
 fn optional(part: Option<&[u8]>, most: usize) -> bool {
     part.is_none_or(|part| part.len() <= most)
 }
 
-fn client(m: &Client) -> bool {
-    let lists = m.ciphers.len().is_multiple_of(2) && m.ciphers.len() <= 65_534 && m.methods.len() <= 255;
-    m.random.len() == 32 && optional(m.id, 32) && lists && optional(m.ext, 65_535)
+pub fn client(m: &Client) -> bool {
+    let ciphers = m.ciphers.len().is_multiple_of(2) && m.ciphers.len() <= limit::CIPHERS;
+    let lists = ciphers && m.methods.len() <= limit::METHODS;
+    random(m.random) && optional(m.id, limit::ID) && lists && optional(m.ext, limit::EXTENSIONS)
 }
 
-fn server(m: &Server) -> bool {
-    m.random.len() == 32 && optional(m.id, 32) && optional(m.ext, 65_535)
+pub fn server(m: &Server) -> bool {
+    random(m.random) && optional(m.id, limit::ID) && optional(m.ext, limit::EXTENSIONS)
 }
 
-fn draft(m: &Draft) -> bool {
-    m.random.len() == 32 && optional(m.ext, 65_535)
+pub fn draft(m: &Draft) -> bool {
+    random(m.random) && optional(m.ext, limit::EXTENSIONS)
 }
 
-fn key(m: &Key) -> bool {
+pub fn key(m: &Key) -> bool {
     match m {
-        Key::Unknown(b) => b.len() <= 0xff_ffff,
-        Key::Dh(b) => b.len() <= 65_535,
-        Key::Ecdh(b) => b.len() <= 255,
+        Key::Unknown(b) => b.len() <= limit::BODY,
+        Key::Dh(b) => b.len() <= limit::DH,
+        Key::Ecdh(b) => b.len() <= limit::POINT,
     }
 }
 
-fn record(m: &Record) -> bool {
-    m.content.len() <= 16_640 && write::is_written(m.content)
+pub fn hello_request(m: &[u8]) -> bool {
+    m.is_empty()
+}
+
+pub fn finished(m: &[u8]) -> bool {
+    m.len() <= limit::BODY
+}
+
+/// Of a message that is read and written again.
+pub fn again(m: &[u8]) -> bool {
+    write::message(m).is_some()
+}
+
+pub fn record(m: &Record) -> bool {
+    m.content.len() <= limit::RECORD && write::is_written(m.content)
 }

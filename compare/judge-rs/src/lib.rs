@@ -1,6 +1,5 @@
-//! The judge: seeded cases for the reading and the writing functions, and the
-//! crate's answers to them in one text, so that another program can answer the
-//! same cases.
+//! The judge: seeded cases for the reading and the writing functions, and tls-parser's answers to
+//! them in one text, so that another program can answer the same cases.
 
 pub mod answer;
 pub mod apart;
@@ -9,12 +8,13 @@ pub mod case;
 pub mod container;
 pub mod count;
 pub mod domain;
-pub mod functions;
 pub mod generate;
 pub mod made;
 pub mod randoms;
 pub mod rng;
+pub mod rows;
 pub mod sheet;
+pub mod table;
 pub mod text;
 pub mod truncations;
 pub mod values;

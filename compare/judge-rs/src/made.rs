@@ -2,6 +2,7 @@
 
 use crate::bytes::join;
 use crate::container::{Heard, Said};
+use crate::table::form;
 
 #[derive(Clone, Copy)]
 pub struct Client<'a> {
@@ -44,9 +45,18 @@ pub enum Key<'a> {
 /// A record round messages already written.
 #[derive(Clone, Copy)]
 pub struct Record<'a> {
-    pub kind: u8,
+    pub record_type: u8,
     pub version: u16,
     pub content: &'a [u8],
+}
+
+/// A value that is its bytes.
+pub struct Part;
+
+impl Part {
+    pub fn read(i: &[u8]) -> &[u8] {
+        i
+    }
 }
 
 impl<'a> Client<'a> {
@@ -116,17 +126,17 @@ impl<'a> Draft<'a> {
 impl<'a> Key<'a> {
     pub fn bytes(&self) -> Vec<u8> {
         match self {
-            Key::Unknown(b) => join(&[&[0], b]),
-            Key::Dh(b) => join(&[&[1], b]),
-            Key::Ecdh(b) => join(&[&[2], b]),
+            Key::Unknown(b) => join(&[&[form::UNKNOWN], b]),
+            Key::Dh(b) => join(&[&[form::DH], b]),
+            Key::Ecdh(b) => join(&[&[form::ECDH], b]),
         }
     }
 
     pub fn read(i: &'a [u8]) -> Self {
         match i {
-            [0, rest @ ..] => Key::Unknown(rest),
-            [1, rest @ ..] => Key::Dh(rest),
-            [2, rest @ ..] => Key::Ecdh(rest),
+            [form::UNKNOWN, rest @ ..] => Key::Unknown(rest),
+            [form::DH, rest @ ..] => Key::Dh(rest),
+            [form::ECDH, rest @ ..] => Key::Ecdh(rest),
             _ => panic!("no form of a key exchange"),
         }
     }
@@ -134,11 +144,11 @@ impl<'a> Key<'a> {
 
 impl<'a> Record<'a> {
     pub fn bytes(&self) -> Vec<u8> {
-        join(&[&[self.kind], &self.version.to_be_bytes(), self.content])
+        join(&[&[self.record_type], &self.version.to_be_bytes(), self.content])
     }
 
     pub fn read(i: &'a [u8]) -> Self {
-        let [kind, high, low, content @ ..] = i else { panic!("no record") };
-        Record { kind: *kind, version: u16::from_be_bytes([*high, *low]), content }
+        let [record_type, high, low, content @ ..] = i else { panic!("no record") };
+        Record { record_type: *record_type, version: u16::from_be_bytes([*high, *low]), content }
     }
 }

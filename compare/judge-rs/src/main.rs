@@ -7,10 +7,10 @@ use std::process::exit;
 
 const USAGE: &str = "judge generate SEED COUNT          prints COUNT cases of the readers
 judge generate-writes SEED COUNT   prints COUNT cases of the writers
-judge answer                       reads cases, prints them with the crate's answers
+judge answer                       reads cases, prints them with tls-parser's answers
 judge count                        reads answered cases, prints a table of them
-judge truncations                  prints what the crate writes outside the domain
-judge apart                        prints two answers of the crate that no case asks for";
+judge truncations                  prints what tls-parser writes outside the domain
+judge apart                        prints two answers of tls-parser that no case asks for";
 
 fn main() -> io::Result<()> {
     let words: Vec<String> = std::env::args().skip(1).collect();
@@ -47,7 +47,7 @@ fn print_answers() -> io::Result<()> {
     for line in lines() {
         let line = line?;
         let case: Case = line.parse().unwrap_or_else(|e| stop(&line, e));
-        // A panic here is the crate's, or an answer that the text cannot say.
+        // A panic here is tls-parser's, or an answer that the text cannot say.
         let numbers = catch_unwind(AssertUnwindSafe(|| answer(&case)))
             .unwrap_or_else(|_| stop(&line, "no answer".into()));
         writeln!(out, "{case} = {}", text::numbers(&numbers))?;

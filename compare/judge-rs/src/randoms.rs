@@ -1,7 +1,7 @@
 //! What the trait `ClientHello` adds to the fields, time and bytes of the random, of the
 //! ClientHellos of a case: those that are read, or the one to be written.
 
-use crate::{case::Case, functions::*, made::Client, sheet::Sheet, write};
+use crate::{case::Case, made::Client, sheet::Sheet, table::*, write};
 use tls_parser::*;
 
 /// The numbers of each ClientHello in its order, put behind those that are there.

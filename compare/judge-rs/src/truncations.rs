@@ -1,16 +1,18 @@
-//! What the crate writes for values just outside of what may be written.
+//! What tls-parser writes for values just outside of what may be written.
 
 use crate::bytes::run;
 use crate::made::{Client, Draft, Key, Record, Server};
+use crate::table::record_type::HANDSHAKE;
+use crate::table::version::{DRAFT_18, TLS12};
 use crate::write::{self, Written};
 use std::panic::{catch_unwind, set_hook, AssertUnwindSafe};
 
 const RANDOM: &[u8] = &[0; 32];
 const CLIENT: Client =
-    Client { version: 0x0303, random: RANDOM, id: None, ciphers: &[], methods: &[], ext: None };
+    Client { version: TLS12, random: RANDOM, id: None, ciphers: &[], methods: &[], ext: None };
 const SERVER: Server =
-    Server { version: 0x0303, cipher: 0x1301, compression: 0, random: RANDOM, id: None, ext: None };
-const DRAFT: Draft = Draft { version: 0x7f12, cipher: 0x1301, random: RANDOM, ext: None };
+    Server { version: TLS12, cipher: 0x1301, compression: 0, random: RANDOM, id: None, ext: None };
+const DRAFT: Draft = Draft { version: DRAFT_18, cipher: 0x1301, random: RANDOM, ext: None };
 
 /// Where the length of the part stands in the writing, and its bytes; none for a random.
 type Place = Option<(usize, usize)>;
@@ -19,7 +21,7 @@ pub fn table() -> String {
     // A panic is told in its row.
     set_hook(Box::new(|_| {}));
     let built = if cfg!(debug_assertions) { "with" } else { "without" };
-    let mut out = format!("The crate is built {built} debug assertions and overflow checks.\n");
+    let mut out = format!("tls-parser is built {built} debug assertions and overflow checks.\n");
     out += &row("value", "bytes", "its length", "message", "written");
     clients(&mut out);
     servers(&mut out);
@@ -75,7 +77,7 @@ fn others(out: &mut String) {
 fn records(out: &mut String) {
     for n in [16_641, 65_536] {
         let content = write::finished(&run(1, n - 4)).expect("a message");
-        let record = Record { kind: 0x16, version: 0x0303, content: &content };
+        let record = Record { record_type: HANDSHAKE, version: TLS12, content: &content };
         let text = told(n, Some((3, 2)), None, write::record(&record));
         out.push_str(&row("record, content", &text[0], &text[1], &text[2], &text[3]));
     }

@@ -1,49 +1,33 @@
-//! What the crate writes.
+//! What tls-parser writes.
 
 use crate::made::{Client, Draft, Key, Record, Server};
-use crate::{case::Case, domain, functions::*};
+use crate::table::{self, refusal};
+use crate::{case::Case, domain};
 use cookie_factory::gen_simple;
 use tls_parser::*;
 
-/// The number of `GenError::NotYetImplemented`.
-const NOT_YET: u64 = 12;
-
 pub type Written = Result<Vec<u8>, GenError>;
 
-/// 0, how many bytes and each of them; or 12 alone. Panics outside the domain.
+/// 0, how many bytes and each of them; or the number of the refusal alone. Panics outside the
+/// domain.
 pub fn answer(case: &Case) -> Vec<u64> {
     domain::hold(case);
     match text(case) {
         Ok(bytes) => {
-            assert!(bytes.len() < domain::ROOM, "more than the port has room for");
+            assert!(bytes.len() < domain::ROOM, "a text of {} bytes", bytes.len());
             [0, bytes.len() as u64].into_iter().chain(bytes.into_iter().map(u64::from)).collect()
         }
         Err(number) => vec![number],
     }
 }
 
-/// The bytes that are written for the value of a case, in the domain or not; or the
-/// number of the refusal.
+/// The bytes that are written for the value of a case, in the domain or not; or the number of the
+/// refusal.
 pub fn text(case: &Case) -> Result<Vec<u8>, u64> {
-    written(case.function, &case.input).map_err(|refused| match refused {
-        GenError::NotYetImplemented => NOT_YET,
+    table::written(case.function, &case.input).map_err(|refused| match refused {
+        GenError::NotYetImplemented => refusal::NOT_YET_IMPLEMENTED,
         other => panic!("a refusal without a number: {other:?}"),
     })
-}
-
-fn written(name: &str, i: &[u8]) -> Written {
-    match name {
-        GEN_CLIENT_HELLO => client(&Client::read(i)),
-        GEN_SERVER_HELLO => server(&Server::read(i)),
-        GEN_DRAFT_18 => draft(&Draft::read(i)),
-        GEN_CLIENT_KEY => key(&Key::read(i)),
-        GEN_HELLO_REQUEST => gen_simple(gen_tls_hellorequest(), Vec::new()),
-        GEN_FINISHED => finished(i),
-        // The crate's function of that name is not public, but this is all it is for.
-        GEN_MESSAGE => message(i).expect("a message").1.serialize(),
-        GEN_PLAINTEXT => record(&Record::read(i)),
-        _ => panic!("no function {name}"),
-    }
 }
 
 pub fn hello<'a>(m: &Client<'a>) -> TlsClientHelloContents<'a> {
@@ -81,11 +65,20 @@ pub fn key(m: &Key) -> Written {
     gen_simple(gen_tls_clientkeyexchange(&key), Vec::new())
 }
 
+pub fn hello_request(_: &[u8]) -> Written {
+    gen_simple(gen_tls_hellorequest(), Vec::new())
+}
+
 pub fn finished(m: &[u8]) -> Written {
     gen_simple(gen_tls_finished(m), Vec::new())
 }
 
-/// The first message as the crate reads it, and what stands behind it.
+/// The first message, read and written again.
+pub fn again(i: &[u8]) -> Written {
+    message(i).expect("a message").1.serialize()
+}
+
+/// The first message as tls-parser reads it, and what stands behind it.
 pub fn message(i: &[u8]) -> Option<(&[u8], TlsMessageHandshake<'_>)> {
     match parse_tls_message_handshake(i) {
         Ok((rest, TlsMessage::Handshake(m))) => Some((rest, m)),
@@ -93,7 +86,7 @@ pub fn message(i: &[u8]) -> Option<(&[u8], TlsMessageHandshake<'_>)> {
     }
 }
 
-/// Messages one behind the other, all of which the crate reads.
+/// Messages one behind the other, all of which tls-parser reads.
 fn messages(content: &[u8]) -> Option<Vec<TlsMessage<'_>>> {
     let mut all = Vec::new();
     let mut left = content;
@@ -106,14 +99,14 @@ fn messages(content: &[u8]) -> Option<Vec<TlsMessage<'_>>> {
 }
 
 pub fn record(m: &Record) -> Written {
-    let (record_type, version) = (TlsRecordType(m.kind), TlsVersion(m.version));
+    let (record_type, version) = (TlsRecordType(m.record_type), TlsVersion(m.version));
     let msg = messages(m.content).expect("messages");
     // The length given with a header is not looked at.
     let record = TlsPlaintext { hdr: TlsRecordHeader { record_type, version, len: 0 }, msg };
     gen_simple(gen_tls_plaintext(&record), Vec::new())
 }
 
-/// Whether the crate, having read the content as messages, writes it again as it is.
+/// Whether tls-parser, having read the content as messages, writes it again as it is.
 pub fn is_written(content: &[u8]) -> bool {
     let Some(all) = messages(content) else { return false };
     let again: Result<Vec<_>, _> = all.iter().map(|m| gen_simple(gen_tls_message(m), Vec::new())).collect();

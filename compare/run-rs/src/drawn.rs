@@ -1,17 +1,15 @@
 //! The generator's cases, and records of the types that are opened elsewhere.
 
 use judge::case::Case;
-use judge::functions::PLAINTEXT;
 use judge::generate;
 use judge::rng::Rng;
+use judge::table::record_type::ELSEWHERE;
+use judge::table::PLAINTEXT;
 use std::io;
 
 type Out<'a> = &'a mut dyn FnMut(&Case) -> io::Result<()>;
 
-/// The types that the original opens and the port leaves to others.
-const TYPES: [u8; 4] = [0x14, 0x15, 0x17, 0x18];
-
-/// One in so many plaintext records gets one of those types.
+/// One in so many plaintext records gets a type that is opened elsewhere.
 const SHARE: usize = 16;
 
 pub fn readings(seed: u64, many: u64, out: Out) -> io::Result<()> {
@@ -21,7 +19,7 @@ pub fn readings(seed: u64, many: u64, out: Out) -> io::Result<()> {
             return out(case);
         }
         let mut other = case.clone();
-        other.input[0] = *rng.pick(&TYPES);
+        other.input[0] = *rng.pick(&ELSEWHERE);
         out(&other)
     })
 }

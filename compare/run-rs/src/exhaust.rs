@@ -1,8 +1,10 @@
 //! Every short input of the readers.
 
 use crate::families::{all, Family, Frame};
+use judge::bytes::{message, record};
 use judge::case::Case;
-use judge::functions::is_sized;
+use judge::table::is_sized;
+use judge::table::record_type::HANDSHAKE;
 use std::io;
 
 type Out<'a> = &'a mut dyn FnMut(&Case) -> io::Result<()>;
@@ -55,8 +57,8 @@ impl Family {
         let word = [&self.before[..], &vec![self.letters[0]; n]].concat();
         match self.frame {
             Frame::Bare => word,
-            Frame::Message(kind) => judge::bytes::message(kind, &word),
-            Frame::Record => judge::bytes::record(0x16, &word),
+            Frame::Message(handshake_type) => message(handshake_type, &word),
+            Frame::Record => record(HANDSHAKE, &word),
         }
     }
 }

@@ -1,7 +1,9 @@
 //! Families of short inputs that are taken to the last one: given bytes, then every
 //! word over a few letters, those that matter where they stand.
 
-use judge::functions::*;
+use judge::table::record_type::{CHANGE_CIPHER_SPEC, HANDSHAKE, HEARTBEAT};
+use judge::table::version::{DRAFT_18, SSL30, TLS10, TLS11, TLS12, TLS13};
+use judge::table::*;
 
 pub struct Family {
     pub functions: &'static [&'static str],
@@ -34,6 +36,8 @@ const BYTES: [u8; 256] = {
 };
 const FEW: &[u8] = &[0, 1, 2];
 const SMALL: &[u8] = &[0, 1, 2, 3, 0xff];
+/// Types and lengths of messages.
+const MESSAGES: &[u8] = &[0, 1, 2, 3, 4, 5, kind::CertificateRequest, kind::Finished];
 /// Round the longest id, too.
 const HELLO: &[u8] = &[0, 1, 2, 3, 0x20, 0x21, 0xff];
 
@@ -59,22 +63,24 @@ fn framed(frame: Frame, functions: &'static [&'static str], letters: &'static [u
 
 /// Headers, lengths round the limit, and contents of small messages.
 fn records(all: &mut Vec<Family>) {
-    all.push(bare(&[HEADER, RAW, ENCRYPTED, PLAINTEXT], &[], &[0, 1, 3, 0x16, 0x41, 0xff], 5));
-    for kind in 0x13..=0x19 {
-        all.push(bare(&[RAW, ENCRYPTED, PLAINTEXT], &[kind, 3, 1], &[0, 1, 2, 0x40, 0x41, 0xff], 4));
-        all.push(bare(&[PLAINTEXT], &[kind, 3, 1, 0], &[0, 1, 4, 5, 14], 6));
+    all.push(bare(&[HEADER, RAW, ENCRYPTED, PLAINTEXT], &[], &[0, 1, 3, HANDSHAKE, 0x41, 0xff], 5));
+    for record_type in CHANGE_CIPHER_SPEC - 1..=HEARTBEAT + 1 {
+        let head = [record_type, 0x03, 0x01];
+        all.push(bare(&[RAW, ENCRYPTED, PLAINTEXT], &head, &[0, 1, 2, 0x40, 0x41, 0xff], 4));
+        let head = [record_type, 0x03, 0x01, 0];
+        all.push(bare(&[PLAINTEXT], &head, &[0, 1, 4, 5, kind::ServerDone], 6));
     }
-    all.push(framed(Frame::Record, &[PLAINTEXT], &[0, 1, 4, 14], 9));
-    all.push(framed(Frame::Record, &[PLAINTEXT], &[0, 1, 2, 3, 4, 5, 13, 20], 6));
+    all.push(framed(Frame::Record, &[PLAINTEXT], &[0, 1, 4, kind::ServerDone], 9));
+    all.push(framed(Frame::Record, &[PLAINTEXT], MESSAGES, 6));
 }
 
 /// Every type, and for those that are opened short bodies.
 fn messages(all: &mut Vec<Family>) {
-    for kind in 0..=255 {
-        all.push(bare(&[MESSAGE], &[kind], &[0, 1, 2, 0xff], 4));
+    for handshake_type in 0..=0xff {
+        all.push(bare(&[MESSAGE], &[handshake_type], &[0, 1, 2, 0xff], 4));
     }
-    for kind in KINDS {
-        all.push(framed(Frame::Message(kind), &[MESSAGE], SMALL, 6));
+    for handshake_type in TYPES {
+        all.push(framed(Frame::Message(handshake_type), &[MESSAGE], SMALL, 6));
     }
 }
 
@@ -88,25 +94,25 @@ fn behind(all: &mut Vec<Family>, functions: &'static [&'static str], before: &[u
 }
 
 /// A version, and a random whose bytes tell their places.
-fn fixed(version: [u8; 2]) -> Vec<u8> {
-    version.into_iter().chain(0xc0..0xe0).collect()
+fn fixed(version: u16) -> Vec<u8> {
+    version.to_be_bytes().into_iter().chain(0xc0..0xe0).collect()
 }
 
 fn clients(all: &mut Vec<Family>) {
-    behind(all, &[CLIENT_HELLO, MSG_CLIENT_HELLO], &fixed([3, 3]), [6, 11]);
+    behind(all, &[CLIENT_HELLO, MSG_CLIENT_HELLO], &fixed(TLS12), [6, 11]);
     // With an id, with three ciphers, and all but the block.
     for more in [&[2, 7, 8][..], &[0, 0, 6], &[0, 0, 2, 0x13, 1, 1, 0]] {
-        let before = [&fixed([3, 1])[..], more].concat();
+        let before = [&fixed(TLS10)[..], more].concat();
         all.push(bare(&[CLIENT_HELLO, MSG_CLIENT_HELLO], &before, SMALL, 5));
         all.push(bare(&[CLIENT_HELLO, MSG_CLIENT_HELLO], &before, FEW, 9));
     }
-    for frame in [Frame::Message(1), Frame::Message(2)] {
-        all.push(Family { frame, ..bare(&[MESSAGE], &fixed([3, 3]), FEW, 8) });
+    for frame in [Frame::Message(kind::ClientHello), Frame::Message(kind::ServerHello)] {
+        all.push(Family { frame, ..bare(&[MESSAGE], &fixed(TLS12), FEW, 8) });
     }
 }
 
 fn servers(all: &mut Vec<Family>) {
-    for version in [[3, 0], [3, 1], [3, 2], [3, 3], [3, 4], [0x7f, 0x12]] {
+    for version in [SSL30, TLS10, TLS11, TLS12, TLS13, DRAFT_18] {
         behind(all, &[SERVER_HELLO, MSG_SERVER_HELLO], &fixed(version), [5, 8]);
     }
     behind(all, &[MSG_RETRY], &[0x7f, 0x12, 0x13, 1], [5, 8]);

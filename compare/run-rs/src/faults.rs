@@ -4,7 +4,7 @@ mod randoms;
 mod readings;
 mod writings;
 
-use crate::port::{Port, Walk};
+use crate::norrabist::{Norrabist, Walk};
 use judge::case::Case;
 
 pub type Wrote = Result<usize, u64>;
@@ -20,25 +20,25 @@ pub enum Fault {
     Walk(fn(Walk) -> Walk),
     /// Changes what is handed out of randoms.
     Random(fn(&Case, &mut Vec<u64>)),
-    /// Changes what the original reads.
-    Original(fn(&Case, &mut Vec<u64>)),
+    /// Changes what tls-parser reads.
+    TlsParser(fn(&Case, &mut Vec<u64>)),
 }
 
 pub struct Faulty<P> {
-    pub port: P,
+    pub norrabist: P,
     pub fault: Fault,
 }
 
-impl<P: Port> Port for Faulty<P> {
+impl<P: Norrabist> Norrabist for Faulty<P> {
     fn read(&self, case: &Case, to: &mut Vec<u64>) {
-        self.port.read(case, to);
+        self.norrabist.read(case, to);
         if let Fault::Reading(change) = self.fault {
             change(case, to);
         }
     }
 
     fn walk(&self, case: &Case) -> Walk {
-        let walk = self.port.walk(case);
+        let walk = self.norrabist.walk(case);
         match self.fault {
             Fault::Walk(change) => change(walk),
             _ => walk,
@@ -46,16 +46,16 @@ impl<P: Port> Port for Faulty<P> {
     }
 
     fn randoms(&self, case: &Case, to: &mut Vec<u64>) {
-        self.port.randoms(case, to);
+        self.norrabist.randoms(case, to);
         if let Fault::Random(change) = self.fault {
             change(case, to);
         }
     }
 
     fn write(&self, case: &Case, room: &mut [u8]) -> Wrote {
-        let Fault::Writing(change) = self.fault else { return self.port.write(case, room) };
+        let Fault::Writing(change) = self.fault else { return self.norrabist.write(case, room) };
         let before = room.to_vec();
-        let wrote = self.port.write(case, room);
+        let wrote = self.norrabist.write(case, room);
         change(case, &before, room, wrote)
     }
 }
@@ -81,8 +81,8 @@ pub const ALL: [(&str, Fault); 29] = [
     ("the first bytes of a longer random as its time", Fault::Random(randoms::longer)),
     ("a random of four bytes without a time", Fault::Random(randoms::four)),
     ("the bytes of a random from the fourth on", Fault::Random(randoms::early)),
-    ("a panic of the port", Fault::Reading(readings::panic)),
-    ("a panic of the original", Fault::Original(readings::panic)),
+    ("a panic of Norrabist", Fault::Reading(readings::panic)),
+    ("a panic of tls-parser", Fault::TlsParser(readings::panic)),
     ("a written byte changed", Fault::Writing(writings::byte)),
     ("a byte written behind the text", Fault::Writing(writings::behind)),
     ("a byte too many told", Fault::Writing(writings::count)),

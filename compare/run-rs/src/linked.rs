@@ -1,15 +1,15 @@
-//! The port as it is linked: its crate, through the module by which its tests answer cases.
+//! Norrabist as it is linked: the Rust binding, through the module by which its tests answer cases.
 
 #[path = "../../../rust/tests/support/mod.rs"]
 mod support;
 
-use crate::port::{Port, Walk};
+use crate::norrabist::{Norrabist, Walk};
 use judge::case::Case;
 use norrabist::{parse_tls_plaintext, record_walk_next};
 
 pub struct Linked;
 
-impl Port for Linked {
+impl Norrabist for Linked {
     fn read(&self, case: &Case, to: &mut Vec<u64>) {
         let length = case.length.map(|n| usize::try_from(n).expect("a length of 64 bits"));
         *to = support::answer(case.function, length, &case.input);

@@ -1,8 +1,8 @@
-//! The differences between port and original that docs/DIFFERENCES.md lists.
+//! The differences between Norrabist and tls-parser that docs/DIFFERENCES.md lists.
 
 use judge::case::Case;
-use judge::functions::*;
 use judge::made::{Client, Draft, Key, Record, Server};
+use judge::table::*;
 use Listed::*;
 
 #[derive(Clone, Copy, PartialEq, Eq)]
@@ -53,19 +53,19 @@ const _: () = {
     }
 };
 
-const ADDED: &str = "Port and crate";
-const CUT: &str = "Lengths that the crate's writers cut";
+const ADDED: &str = "Norrabist and tls-parser";
+const CUT: &str = "Lengths that tls-parser's writers cut";
 
 impl Listed {
-    /// The number that the port answers.
+    /// The number that Norrabist answers.
     pub fn number(self) -> u64 {
         match self {
             Dropped => 0,
-            Content => 7,
-            NoRoom => 9,
-            Elsewhere => 10,
-            NoSuch => 11,
-            _ => 8,
+            Content => refusal::TOO_LARGE,
+            NoRoom => refusal::NO_ROOM,
+            Elsewhere => refusal::ELSEWHERE,
+            NoSuch => refusal::NO_SUCH,
+            _ => refusal::BAD_LENGTH,
         }
     }
 
@@ -100,8 +100,8 @@ pub fn outside(case: &Case) -> Option<Listed> {
         GEN_SERVER_HELLO => server(&Server::read(i)),
         GEN_DRAFT_18 => draft(&Draft::read(i)),
         GEN_CLIENT_KEY => key(&Key::read(i)),
-        GEN_FINISHED => over(Raw, i, 0xff_ffff),
-        GEN_PLAINTEXT => over(Content, Record::read(i).content, 16_640),
+        GEN_FINISHED => over(Raw, i, limit::BODY),
+        GEN_PLAINTEXT => over(Content, Record::read(i).content, limit::RECORD),
         _ => None,
     }
 }
@@ -115,30 +115,34 @@ fn optional(listed: Listed, part: Option<&[u8]>, most: usize) -> Option<Listed> 
 }
 
 fn random(listed: Listed, part: &[u8]) -> Option<Listed> {
-    (part.len() != 32).then_some(listed)
+    (part.len() != limit::RANDOM).then_some(listed)
 }
 
 fn client(m: &Client) -> Option<Listed> {
     random(Random, m.random)
-        .or(optional(Id, m.id, 32))
-        .or(over(Ciphers, m.ciphers, 65_535))
+        .or(optional(Id, m.id, limit::ID))
+        .or(over(Ciphers, m.ciphers, limit::CIPHERS + 1))
         .or((!m.ciphers.len().is_multiple_of(2)).then_some(OddCiphers))
-        .or(over(Methods, m.methods, 255))
-        .or(optional(Extensions, m.ext, 65_535))
+        .or(over(Methods, m.methods, limit::METHODS))
+        .or(optional(Extensions, m.ext, limit::EXTENSIONS))
 }
 
 fn server(m: &Server) -> Option<Listed> {
-    random(Random, m.random).or(optional(Id, m.id, 32)).or(optional(Extensions, m.ext, 65_535))
+    random(Random, m.random).or(optional(Id, m.id, limit::ID)).or(optional(
+        Extensions,
+        m.ext,
+        limit::EXTENSIONS,
+    ))
 }
 
 fn draft(m: &Draft) -> Option<Listed> {
-    random(DraftRandom, m.random).or(optional(DraftExtensions, m.ext, 65_535))
+    random(DraftRandom, m.random).or(optional(DraftExtensions, m.ext, limit::EXTENSIONS))
 }
 
 fn key(m: &Key) -> Option<Listed> {
     match m {
-        Key::Unknown(part) => over(Raw, part, 0xff_ffff),
-        Key::Dh(part) => over(DiffieHellman, part, 65_535),
-        Key::Ecdh(part) => over(Curve, part, 255),
+        Key::Unknown(part) => over(Raw, part, limit::BODY),
+        Key::Dh(part) => over(DiffieHellman, part, limit::DH),
+        Key::Ecdh(part) => over(Curve, part, limit::POINT),
     }
 }

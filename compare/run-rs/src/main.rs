@@ -1,7 +1,8 @@
-//! Compares the port and the original in one program: `run CASES SEED`.
+//! Compares Norrabist and tls-parser in one program: `run CASES SEED`.
 
 mod bench;
 mod cut;
+mod documented;
 mod drawn;
 mod exhaust;
 mod families;
@@ -9,11 +10,9 @@ mod faults;
 mod guard;
 mod linked;
 mod listed;
-mod original;
+mod norrabist;
 mod outside;
-mod paper;
 mod parts;
-mod port;
 mod progress;
 mod randoms;
 mod reading;
@@ -25,6 +24,7 @@ mod runs;
 mod self_test;
 mod shrink;
 mod tally;
+mod tls_parser;
 mod verdict;
 mod writing;
 
@@ -33,7 +33,7 @@ use runs::Run;
 use std::process::ExitCode;
 use tally::grouped;
 
-const USAGE: &str = "run CASES SEED          compares port and original
+const USAGE: &str = "run CASES SEED          compares Norrabist and tls-parser
 run --self-test SEED    shows that wrong answers are found";
 
 fn main() -> ExitCode {
@@ -44,7 +44,7 @@ fn main() -> ExitCode {
 }
 
 fn command(words: &[&str]) -> ExitCode {
-    if let Some(missing) = paper::missing() {
+    if let Some(missing) = documented::missing() {
         return stop(&missing);
     }
     let done = match *words {

@@ -3,16 +3,16 @@
 use crate::parts::Parts;
 use judge::bytes::{message, run, telling};
 use judge::case::Case;
-use judge::functions::*;
 use judge::generate;
 use judge::made::{Client, Draft, Key, Record, Server};
 use judge::rng::Rng;
+use judge::table::limit::BODY;
+use judge::table::record_type::HANDSHAKE;
+use judge::table::version::{DRAFT_18, TLS12};
+use judge::table::*;
 use std::io;
 
 type Out<'a> = &'a mut dyn FnMut(&Case) -> io::Result<()>;
-
-/// The longest body that a message can announce.
-const BODY: usize = 0xff_ffff;
 
 const RANDOM: [usize; 9] = [0, 1, 3, 4, 5, 31, 33, 64, 288];
 const ID: [usize; 6] = [33, 34, 255, 256, 257, 288];
@@ -22,9 +22,9 @@ const BLOCK: [usize; 5] = [65_536, 65_537, 65_568, 131_071, 131_072];
 
 pub fn edges(out: Out) -> io::Result<()> {
     let random = &telling(32)[..];
-    let client = Client { version: 0x0303, random, id: None, ciphers: &[0x13, 1], methods: &[0], ext: None };
-    let server = Server { version: 0x0303, cipher: 0x1301, compression: 0, random, id: None, ext: None };
-    let draft = Draft { version: 0x7f12, cipher: 0x1301, random, ext: None };
+    let client = Client { version: TLS12, random, id: None, ciphers: &[0x13, 1], methods: &[0], ext: None };
+    let server = Server { version: TLS12, cipher: 0x1301, compression: 0, random, id: None, ext: None };
+    let draft = Draft { version: DRAFT_18, cipher: 0x1301, random, ext: None };
     for (part, lengths) in [&RANDOM[..], &ID, &CIPHERS, &METHODS, &BLOCK].into_iter().enumerate() {
         with_lengths(GEN_CLIENT_HELLO, &client.bytes(), part, lengths, out)?;
     }
@@ -39,9 +39,9 @@ pub fn edges(out: Out) -> io::Result<()> {
     // A byte less may still be written.
     with_lengths(GEN_CLIENT_KEY, &Key::Unknown(&[]).bytes(), 0, &[BODY, BODY + 1, BODY + 2], out)?;
     with_lengths(GEN_FINISHED, &[], 0, &[BODY, BODY + 1, BODY + 2], out)?;
-    for n in [16_641, 16_642, 65_535, 65_536, 65_537, 131_072] {
-        let content = &message(20, &telling(n - 4));
-        let input = Record { kind: 0x16, version: 0x0303, content }.bytes();
+    for n in [limit::RECORD + 1, limit::RECORD + 2, 65_535, 65_536, 65_537, 131_072] {
+        let content = &message(kind::Finished, &telling(n - 4));
+        let input = Record { record_type: HANDSHAKE, version: TLS12, content }.bytes();
         out(&Case { function: GEN_PLAINTEXT, length: None, input })?;
     }
     Ok(())
@@ -82,20 +82,22 @@ fn broken(rng: &mut Rng, case: &Case) -> Option<Vec<u8>> {
         let at = rng.below(value.parts.len());
         let n = match (case.function, at) {
             (GEN_CLIENT_HELLO | GEN_SERVER_HELLO | GEN_DRAFT_18, 0) => not_32(rng),
-            (GEN_CLIENT_HELLO | GEN_SERVER_HELLO, 1) => 33 + rng.below(300),
+            (GEN_CLIENT_HELLO | GEN_SERVER_HELLO, 1) => limit::ID + 1 + rng.below(300),
             (GEN_CLIENT_HELLO, 2) if rng.below(8) > 0 => 2 * rng.below(40) + 1,
-            (GEN_CLIENT_HELLO, 2) => 65_536 + rng.below(1000),
-            (GEN_CLIENT_HELLO, 3) => 256 + rng.below(600),
-            (GEN_CLIENT_HELLO | GEN_SERVER_HELLO | GEN_DRAFT_18, _) => 65_536 + rng.below(1000),
-            (GEN_CLIENT_KEY, _) if value.numbers == [1] => 65_536 + rng.below(1000),
-            (GEN_CLIENT_KEY, _) if value.numbers == [2] => 256 + rng.below(600),
+            (GEN_CLIENT_HELLO, 2) => limit::CIPHERS + 2 + rng.below(1000),
+            (GEN_CLIENT_HELLO, 3) => limit::METHODS + 1 + rng.below(600),
+            (GEN_CLIENT_HELLO | GEN_SERVER_HELLO | GEN_DRAFT_18, _) => {
+                limit::EXTENSIONS + 1 + rng.below(1000)
+            }
+            (GEN_CLIENT_KEY, _) if value.numbers == [form::DH] => limit::DH + 1 + rng.below(1000),
+            (GEN_CLIENT_KEY, _) if value.numbers == [form::ECDH] => limit::POINT + 1 + rng.below(600),
             (GEN_PLAINTEXT, _) => 0,
             _ => return None,
         };
         let part = &mut value.parts[at];
         part.there = true;
         if case.function == GEN_PLAINTEXT {
-            part.bytes.extend(message(20, &run(rng.byte(), 16_637 + rng.below(1000))));
+            part.bytes.extend(message(kind::Finished, &run(rng.byte(), limit::RECORD - 3 + rng.below(1000))));
         } else {
             part.bytes.resize(n, rng.byte());
         }
@@ -103,7 +105,7 @@ fn broken(rng: &mut Rng, case: &Case) -> Option<Vec<u8>> {
     Some(value.input())
 }
 
-/// One in eight has four bytes, of which the original's `rand_time` is the number.
+/// One in eight has four bytes, of which tls-parser's `rand_time` is the number.
 fn not_32(rng: &mut Rng) -> usize {
     if rng.below(8) == 0 {
         return 4;

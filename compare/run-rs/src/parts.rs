@@ -2,7 +2,7 @@
 
 use judge::bytes::be;
 use judge::case::Case;
-use judge::functions::*;
+use judge::table::*;
 
 #[derive(Clone)]
 pub struct Parts {

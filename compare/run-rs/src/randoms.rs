@@ -1,18 +1,18 @@
 //! What both hand out of the random of every ClientHello of a case: its time and its bytes.
 
 use crate::guard::{self, last_panic, PANIC};
-use crate::port::Port;
+use crate::norrabist::Norrabist;
 use crate::verdict::Verdict;
 use judge::case::Case;
-use judge::functions::*;
 use judge::made::Client;
+use judge::table::*;
 use judge::{randoms, text};
 
 /// What both said of the last case, and how many were compared.
 #[derive(Default)]
 pub struct Randoms {
-    original: Vec<u64>,
-    port: Vec<u64>,
+    tls_parser: Vec<u64>,
+    norrabist: Vec<u64>,
     /// Cases with a ClientHello that was read or made up.
     pub compared: u64,
     /// Those made up with a random of four bytes, the only ones whose time can be other than 0.
@@ -21,24 +21,24 @@ pub struct Randoms {
 
 impl Randoms {
     /// Whether both say the same, of what was accepted by a reader or made up for a writer.
-    pub fn compare(&mut self, port: &impl Port, case: &Case, verdict: Verdict) -> bool {
-        self.original.clear();
-        self.port.clear();
+    pub fn compare(&mut self, norrabist: &impl Norrabist, case: &Case, verdict: Verdict) -> bool {
+        self.tls_parser.clear();
+        self.norrabist.clear();
         let made_up = case.function == GEN_CLIENT_HELLO;
         if !made_up && !(is_asked(case.function) && verdict == Verdict::Same(0)) {
             return true;
         }
-        guard::numbers(&mut self.original, |to| randoms::read(case, to));
-        guard::numbers(&mut self.port, |to| port.randoms(case, to));
-        self.compared += u64::from(!self.original.is_empty());
+        guard::numbers(&mut self.tls_parser, |to| randoms::read(case, to));
+        guard::numbers(&mut self.norrabist, |to| norrabist.randoms(case, to));
+        self.compared += u64::from(!self.tls_parser.is_empty());
         self.of_four += u64::from(made_up && Client::read(&case.input).random.len() == 4);
-        self.original == self.port && self.original != [PANIC]
+        self.tls_parser == self.norrabist && self.tls_parser != [PANIC]
     }
 
-    /// What both said, if they were asked: the original, the port.
+    /// What both said, if they were asked: tls-parser, Norrabist.
     pub fn told(&self) -> Option<(String, String)> {
-        let asked = !self.original.is_empty() || !self.port.is_empty();
-        asked.then(|| (told(&self.original), told(&self.port)))
+        let asked = !self.tls_parser.is_empty() || !self.norrabist.is_empty();
+        asked.then(|| (told(&self.tls_parser), told(&self.norrabist)))
     }
 }
 

@@ -2,80 +2,89 @@
 
 use crate::guard::{self, caught, last_panic, PANIC};
 use crate::listed::Listed;
-use crate::port::{Port, Walk};
+use crate::norrabist::{Norrabist, Walk};
 use crate::verdict::Verdict;
 use judge::case::Case;
-use judge::functions::PLAINTEXT;
 use judge::generate::elsewhere;
+use judge::table::PLAINTEXT;
 use judge::{answer, text};
 
 type Reader = Box<dyn Fn(&Case, &mut Vec<u64>)>;
 
 /// The answers to the last reading.
 pub struct Reading {
-    /// The original's readers; others where a fault is tried.
-    pub crate_reads: Reader,
-    original: Vec<u64>,
-    port: Vec<u64>,
-    /// The walk over a record, by the original's count of messages and as the port does it.
+    /// tls-parser's readers; others where a fault is tried.
+    pub tls_parser_reads: Reader,
+    tls_parser: Vec<u64>,
+    norrabist: Vec<u64>,
+    /// The walk over a record, by tls-parser's count of messages and as Norrabist does it.
     walks: Option<(Walk, Option<Walk>)>,
 }
 
 impl Default for Reading {
     fn default() -> Self {
-        Reading { crate_reads: Box::new(answer::read), original: Vec::new(), port: Vec::new(), walks: None }
+        Reading {
+            tls_parser_reads: Box::new(answer::read),
+            tls_parser: Vec::new(),
+            norrabist: Vec::new(),
+            walks: None,
+        }
     }
 }
 
 impl Reading {
-    pub fn compare(&mut self, port: &impl Port, case: &Case) -> Verdict {
+    pub fn compare(&mut self, norrabist: &impl Norrabist, case: &Case) -> Verdict {
         self.walks = None;
-        guard::numbers(&mut self.port, |to| port.read(case, to));
+        guard::numbers(&mut self.norrabist, |to| norrabist.read(case, to));
         if elsewhere(case) {
             return self.compare_elsewhere(case);
         }
-        guard::numbers(&mut self.original, |to| (self.crate_reads)(case, to));
-        match self.port.first() {
-            Some(first) if *first != PANIC && self.port == self.original => {
-                self.compare_walks(port, case, Verdict::Same(*first))
+        guard::numbers(&mut self.tls_parser, |to| (self.tls_parser_reads)(case, to));
+        match self.norrabist.first() {
+            Some(first) if *first != PANIC && self.norrabist == self.tls_parser => {
+                self.compare_walks(norrabist, case, Verdict::Same(*first))
             }
             _ => Verdict::Differs,
         }
     }
 
-    /// Of a record that was accepted also the walk, which the original has not.
-    fn compare_walks(&mut self, port: &impl Port, case: &Case, same: Verdict) -> Verdict {
-        if case.function != PLAINTEXT || self.port[0] != 0 {
+    /// Of a record that was accepted also the walk, which tls-parser has not.
+    fn compare_walks(&mut self, norrabist: &impl Norrabist, case: &Case, same: Verdict) -> Verdict {
+        if case.function != PLAINTEXT || self.norrabist[0] != 0 {
             return same;
         }
-        let walk = walk(&case.input, self.original[5] as usize);
-        let ported = caught(|| port.walk(case));
-        self.walks = Some((walk, ported));
-        if ported == Some(walk) {
+        let walk = walk(&case.input, self.tls_parser[5] as usize);
+        let walked = caught(|| norrabist.walk(case));
+        self.walks = Some((walk, walked));
+        if walked == Some(walk) {
             same
         } else {
             Verdict::Differs
         }
     }
 
-    /// The original looks into the record; what it finds there is not compared.
+    /// tls-parser looks into the record; what it finds there is not compared.
     fn compare_elsewhere(&mut self, case: &Case) -> Verdict {
-        guard::numbers(&mut self.original, |to| to.extend(answer::is_opened(&case.input).then_some(0)));
+        guard::numbers(&mut self.tls_parser, |to| to.extend(answer::is_opened(&case.input).then_some(0)));
         let listed = Listed::Elsewhere;
-        if self.original != [PANIC] && self.port == [listed.number()] {
+        if self.tls_parser != [PANIC] && self.norrabist == [listed.number()] {
             Verdict::Listed(listed)
         } else {
             Verdict::Differs
         }
     }
 
-    /// What both said: the original, the port.
+    /// What both said: tls-parser, Norrabist.
     pub fn told(&self) -> (String, String) {
-        let (original, port) = (told(&self.original), told(&self.port));
+        let (tls_parser, norrabist) = (told(&self.tls_parser), told(&self.norrabist));
         match &self.walks {
-            None => (original, port),
-            Some((walk, None)) => (format!("{original}, {walk:?}"), format!("{port}, {}", told(&[PANIC]))),
-            Some((walk, Some(ported))) => (format!("{original}, {walk:?}"), format!("{port}, {ported:?}")),
+            None => (tls_parser, norrabist),
+            Some((walk, None)) => {
+                (format!("{tls_parser}, {walk:?}"), format!("{norrabist}, {}", told(&[PANIC])))
+            }
+            Some((walk, Some(walked))) => {
+                (format!("{tls_parser}, {walk:?}"), format!("{norrabist}, {walked:?}"))
+            }
         }
     }
 }

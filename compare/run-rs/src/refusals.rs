@@ -1,4 +1,4 @@
-//! The refusals by their numbers.
+//! The refusals by their numbers (RULES 1).
 
 pub const NAMES: [&str; 13] = [
     "accepted",

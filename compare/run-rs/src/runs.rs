@@ -1,7 +1,7 @@
 //! A run: cases to the bench until one differs.
 
 use crate::bench::Bench;
-use crate::port::Port;
+use crate::norrabist::Norrabist;
 use crate::progress::Progress;
 use crate::shrink::shrink;
 use crate::tally::Tally;
@@ -20,14 +20,14 @@ pub struct Run<P> {
     progress: Option<Progress>,
 }
 
-impl<P: Port> Run<P> {
-    pub fn new(port: P) -> Self {
-        Run { bench: Bench::new(port), tally: Tally::new(), found: None, progress: None }
+impl<P: Norrabist> Run<P> {
+    pub fn new(norrabist: P) -> Self {
+        Run { bench: Bench::new(norrabist), tally: Tally::new(), found: None, progress: None }
     }
 
     /// With a word on standard error now and then.
-    pub fn telling(port: P) -> Self {
-        Run { progress: Some(Progress::new()), ..Run::new(port) }
+    pub fn telling(norrabist: P) -> Self {
+        Run { progress: Some(Progress::new()), ..Run::new(norrabist) }
     }
 
     pub fn all(&mut self, cases: u64, seed: u64) -> io::Result<()> {
@@ -74,7 +74,7 @@ impl<P: Port> Run<P> {
     pub fn smallest(&mut self, case: &Case) -> (Case, String, String) {
         let small = shrink(case, &mut |case| self.bench.compare(case) == Verdict::Differs);
         self.bench.compare(&small);
-        let (original, port) = self.bench.told(&small);
-        (small, original, port)
+        let (tls_parser, norrabist) = self.bench.told(&small);
+        (small, tls_parser, norrabist)
     }
 }

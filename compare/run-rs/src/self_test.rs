@@ -1,4 +1,4 @@
-//! Whether wrong answers are found: each fault in turn is laid over the port.
+//! Whether wrong answers are found: each fault in turn is laid over Norrabist.
 
 use crate::bench::Bench;
 use crate::faults::{Fault, Faulty, ALL};
@@ -24,9 +24,9 @@ pub fn run(seed: u64) -> ExitCode {
 }
 
 fn is_found(name: &str, fault: Fault, seed: u64) -> bool {
-    let mut run = Run::new(Faulty { port: Linked, fault });
-    if let Fault::Original(change) = fault {
-        run.bench.reading.crate_reads = Box::new(move |case, to| {
+    let mut run = Run::new(Faulty { norrabist: Linked, fault });
+    if let Fault::TlsParser(change) = fault {
+        run.bench.reading.tls_parser_reads = Box::new(move |case, to| {
             answer::read(case, to);
             change(case, to);
         });

@@ -5,7 +5,7 @@ mod lengths;
 
 use crate::parts::Parts;
 use judge::case::Case;
-use judge::functions::*;
+use judge::table::*;
 use judge::write;
 use std::time::{Duration, Instant};
 
@@ -51,7 +51,7 @@ pub fn shrink(case: &Case, fails: Fails) -> Case {
 fn is_value(case: &Case) -> bool {
     let i = &case.input[..];
     match case.function {
-        GEN_CLIENT_KEY => i.first().is_some_and(|form| *form <= 2),
+        GEN_CLIENT_KEY => i.first().is_some_and(|first| *first <= form::ECDH),
         GEN_HELLO_REQUEST => i.is_empty(),
         GEN_MESSAGE => write::message(i).is_some(),
         GEN_PLAINTEXT => i.len() >= 3 && write::is_written(&i[3..]),

@@ -4,7 +4,7 @@ use crate::listed::{self, Listed};
 use crate::refusals::NAMES;
 use crate::verdict::Verdict;
 use judge::case::Case;
-use judge::functions::{is_writer, PLAINTEXT, READING, WRITING};
+use judge::table::{is_writer, refusal, PLAINTEXT, READING, WRITING};
 
 const FUNCTIONS: usize = READING.len() + WRITING.len();
 const NUMBERS: usize = NAMES.len();
@@ -13,7 +13,7 @@ const NUMBERS: usize = NAMES.len();
 const LONG: usize = 16_384;
 
 pub struct Tally {
-    /// By function, and by the first number of the port's answer.
+    /// By function, and by the first number of Norrabist's answer.
     answers: [[u64; NUMBERS]; FUNCTIONS],
     listed: [u64; listed::ALL.len()],
     pub cases: u64,
@@ -73,9 +73,9 @@ impl Tally {
     fn refusals(&self) -> String {
         let mut out = format!("{:>4}  {:<52}{:>14}\n", "No.", "Refusal", "Answers");
         for (number, name) in NAMES.iter().enumerate().skip(1) {
-            let besides = match number {
-                9 => self.listed[Listed::NoRoom as usize],
-                11 => self.listed[Listed::NoSuch as usize],
+            let besides = match number as u64 {
+                refusal::NO_ROOM => self.listed[Listed::NoRoom as usize],
+                refusal::NO_SUCH => self.listed[Listed::NoSuch as usize],
                 _ => 0,
             };
             let answers = self.of_number(number) + besides;
@@ -86,7 +86,7 @@ impl Tally {
 
     fn differences(&self) -> String {
         let mut out =
-            format!("{:<44}{:>14}{:>14}  {}\n", "Listed difference", "Port answers", "Times", "Listed under");
+            format!("{:<44}{:>14}{:>14}  {}\n", "Listed difference", "Answer", "Times", "Listed under");
         for (listed, times) in listed::ALL.into_iter().zip(self.listed) {
             let (heading, item) = listed.place();
             out += &format!("{item:<44}{:>14}{:>14}  {heading}\n", listed.number(), grouped(times));

@@ -2,7 +2,7 @@
 
 use super::{sealed::Sealed, Item};
 use crate::ffi::Block;
-use crate::newtypes::TlsCipherSuiteID;
+use crate::table::TlsCipherSuiteID;
 use std::iter::FusedIterator;
 use std::marker::PhantomData;
 

@@ -12,6 +12,7 @@ pub trait Part<'a> {
     /// The export that tells such items.
     const LISTER: Lister<2>;
 
+    /// The item that has these bytes.
     fn of(data: &'a [u8]) -> Self;
 }
 

@@ -1,4 +1,5 @@
-//! What `rand_time` and `rand_bytes` give of the ClientHellos of a case: those that are read, or the one to be written.
+//! What `rand_time` and `rand_bytes` give of the ClientHellos of a case: those that are read, or
+//! the one to be written.
 
 use super::{sheet::Sheet, writing};
 use norrabist::*;

@@ -1,4 +1,5 @@
-//! The writers' answers. The value to be written is said by bytes (`compare/README.md`, "A writing and its answer").
+//! The writers' answers. The value to be written is said by bytes (`compare/README.md`, "A writing
+//! and its answer").
 
 use norrabist::*;
 
@@ -19,27 +20,40 @@ pub fn room(input: &[u8]) -> usize {
     input.len() + MORE
 }
 
-/// Writes the value that the input says; none where it says no value.
-pub fn write(name: &str, i: &[u8], out: &mut [u8]) -> Option<Result<usize, Refusal>> {
-    Some(match name {
-        "gen_tls_clienthello" => gen_tls_clienthello(&client(i)?, out),
-        "gen_tls_serverhello" => gen_tls_serverhello(&server(i)?, out),
-        "gen_tls_serverhellodraft18" => gen_tls_serverhellodraft18(&draft_18(i)?, out),
-        "gen_tls_clientkeyexchange" => gen_tls_clientkeyexchange(&key(i)?, out),
-        "gen_tls_hellorequest" if i.is_empty() => gen_tls_hellorequest(out),
-        "gen_tls_finished" => gen_tls_finished(i, out),
-        "gen_tls_messagehandshake" => {
-            let (_, message) = parse_tls_message_handshake(i).ok()?;
-            gen_tls_messagehandshake(&message, out)
+/// Makes of a row for each writer their names and their calls.
+macro_rules! writers {
+    ($($writer:ident: ($i:ident, $out:ident) => $call:expr;)*) => {
+        /// The writers' names, in the order of the table.
+        pub const WRITERS: &[&str] = &[$(stringify!($writer)),*];
+
+        /// Writes the value that the input says; none where it says no value.
+        pub fn write(name: &str, i: &[u8], out: &mut [u8]) -> Option<Result<usize, Refusal>> {
+            Some(match name {
+                $(stringify!($writer) => {
+                    let ($i, $out) = (i, out);
+                    $call
+                })*
+                _ => return None,
+            })
         }
-        "gen_tls_plaintext" => {
-            let [kind, high, low, content @ ..] = i else { return None };
-            let version = TlsVersion(u16::from_be_bytes([*high, *low]));
-            let hdr = TlsRecordHeader { record_type: TlsRecordType(*kind), version, len: 0 };
-            gen_tls_plaintext(&hdr, content, out)
-        }
-        _ => return None,
-    })
+    };
+}
+
+writers! {
+    gen_tls_clienthello: (i, out) => gen_tls_clienthello(&client(i)?, out);
+    gen_tls_serverhello: (i, out) => gen_tls_serverhello(&server(i)?, out);
+    gen_tls_serverhellodraft18: (i, out) => gen_tls_serverhellodraft18(&draft_18(i)?, out);
+    gen_tls_clientkeyexchange: (i, out) => gen_tls_clientkeyexchange(&key(i)?, out);
+    gen_tls_hellorequest: (i, out) => i.is_empty().then(|| gen_tls_hellorequest(out))?;
+    gen_tls_finished: (i, out) => gen_tls_finished(i, out);
+    gen_tls_messagehandshake: (i, out) => {
+        let (_, message) = parse_tls_message_handshake(i).ok()?;
+        gen_tls_messagehandshake(&message, out)
+    };
+    gen_tls_plaintext: (i, out) => {
+        let (hdr, content) = record(i)?;
+        gen_tls_plaintext(&hdr, content, out)
+    };
 }
 
 /// Numbers and lengths, and the parts behind all of them.
@@ -119,4 +133,10 @@ fn key(i: &[u8]) -> Option<TlsClientKeyExchangeContents<'_>> {
         [2, point @ ..] => Some(TlsClientKeyExchangeContents::Ecdh(ECPoint { point })),
         _ => None,
     }
+}
+
+fn record(i: &[u8]) -> Option<(TlsRecordHeader, &[u8])> {
+    let [record_type, high, low, content @ ..] = i else { return None };
+    let version = TlsVersion(u16::from_be_bytes([*high, *low]));
+    Some((TlsRecordHeader { record_type: TlsRecordType(*record_type), version, len: 0 }, content))
 }

@@ -4,8 +4,9 @@ use super::collect::elsewhere;
 use super::damage::harm;
 use crate::bytes::{announced, join, message, record};
 use crate::case::Case;
-use crate::functions::{is_sized, of_kind, KINDS, MESSAGE, PLAINTEXT, READING};
 use crate::rng::Rng;
+use crate::table::record_type::HANDSHAKE;
+use crate::table::{is_sized, kind, of_type, version, MESSAGE, PLAINTEXT, READING, TYPES};
 
 /// One case; a whole record that goes elsewhere is drawn again.
 pub fn draw(rng: &mut Rng, good: &[Case]) -> Case {
@@ -49,31 +50,57 @@ fn any(rng: &mut Rng) -> Case {
     case(rng, name, input)
 }
 
+/// The types whose bodies are drawn as small bytes, some more often.
+const DRAWN: [u8; 8] = [
+    kind::HelloRetryRequest,
+    kind::Certificate,
+    kind::Certificate,
+    kind::CertificateRequest,
+    kind::CertificateRequest,
+    kind::CertificateRequest,
+    kind::CertificateStatus,
+    kind::NextProtocol,
+];
+
 /// Small bytes, where lengths often fit, for a body of a type that is opened.
 fn body(rng: &mut Rng) -> Case {
-    let kind = *rng.pick(&[6u8, 11, 11, 13, 13, 13, 22, 67]);
+    let drawn = *rng.pick(&DRAWN);
     let n = rng.below(24);
     let input = rng.small_bytes(n);
-    let name = rng.pick(of_kind(kind));
+    let name = rng.pick(of_type(drawn));
     case(rng, name, input)
 }
 
 /// A hello whose fields are drawn; now and then a length is not that of its part.
 fn hello(rng: &mut Rng) -> Case {
-    let kind = 1 + rng.below(2) as u8;
-    let input = hello_body(rng, kind);
-    let name = rng.pick(of_kind(kind));
+    let hello = hello_type(rng);
+    let input = hello_body(rng, hello);
+    let name = rng.pick(of_type(hello));
     case(rng, name, input)
 }
 
-pub fn hello_body(rng: &mut Rng, kind: u8) -> Vec<u8> {
-    let versions = [[3u8, 3], [3, 3], [3, 2], [3, 1], [3, 0], [3, 4], [0x7f, 0x12]];
-    let version = *rng.pick(&versions);
-    let head = join(&[&version, &[rng.byte(); 32]]);
+pub fn hello_type(rng: &mut Rng) -> u8 {
+    *rng.pick(&[kind::ClientHello, kind::ServerHello])
+}
+
+/// Some more often.
+const VERSIONS: [u16; 7] = [
+    version::TLS12,
+    version::TLS12,
+    version::TLS11,
+    version::TLS10,
+    version::SSL30,
+    version::TLS13,
+    version::DRAFT_18,
+];
+
+pub fn hello_body(rng: &mut Rng, hello: u8) -> Vec<u8> {
+    let version = *rng.pick(&VERSIONS);
+    let head = join(&[&version.to_be_bytes(), &[rng.byte(); 32]]);
     let id = field(rng, 1, 34);
-    let middle = match (kind, version) {
-        (1, _) => join(&[&id, &ciphers(rng), &field(rng, 1, 4)]),
-        (_, [0x7f, _]) => rng.bytes(2),
+    let middle = match (hello, version) {
+        (kind::ClientHello, _) => join(&[&id, &ciphers(rng), &field(rng, 1, 4)]),
+        (_, version::DRAFT_18) => rng.bytes(2),
         _ => join(&[&id, &rng.bytes(3)]),
     };
     let block = if rng.below(3) == 0 { Vec::new() } else { field(rng, 2, 8) };
@@ -102,14 +129,14 @@ fn ciphers(rng: &mut Rng) -> Vec<u8> {
 
 /// A message of a type that is mostly opened, with a drawn body.
 pub fn drawn_message(rng: &mut Rng) -> Vec<u8> {
-    let kind = if rng.below(12) == 0 { rng.byte() } else { *rng.pick(&KINDS) };
-    let body = if matches!(kind, 1 | 2) {
-        hello_body(rng, kind)
+    let drawn = if rng.below(12) == 0 { rng.byte() } else { *rng.pick(&TYPES) };
+    let body = if matches!(drawn, kind::ClientHello | kind::ServerHello) {
+        hello_body(rng, drawn)
     } else {
         let n = rng.below(20);
         rng.small_bytes(n)
     };
-    message(kind, &body)
+    message(drawn, &body)
 }
 
 fn one_message(rng: &mut Rng) -> Case {
@@ -123,7 +150,7 @@ fn one_message(rng: &mut Rng) -> Case {
 /// A record of up to five messages, damaged in one of three.
 fn row(rng: &mut Rng) -> Case {
     let messages: Vec<Vec<u8>> = (0..1 + rng.below(5)).map(|_| drawn_message(rng)).collect();
-    let mut input = record(0x16, &messages.concat());
+    let mut input = record(HANDSHAKE, &messages.concat());
     if rng.below(3) == 0 {
         harm(rng, &mut input);
     }

@@ -2,8 +2,12 @@
 
 use crate::bytes::{message, record};
 use crate::case::Case;
-use crate::functions::{is_sized, of_kind, MESSAGE, PLAINTEXT};
+use crate::table::record_type::{ELSEWHERE, HANDSHAKE};
+use crate::table::{is_sized, limit, of_type, MESSAGE, PLAINTEXT};
 use std::collections::HashSet;
+
+/// The most that the length of a record can say, over the limit or not.
+const LONGEST: usize = 0xffff;
 
 #[derive(Default)]
 pub struct Cases {
@@ -30,56 +34,56 @@ impl Cases {
     }
 
     /// A body for the functions of its type.
-    pub fn body(&mut self, kind: u8, body: &[u8]) {
-        for name in of_kind(kind) {
+    pub fn body(&mut self, handshake_type: u8, body: &[u8]) {
+        for name in of_type(handshake_type) {
             self.add(name, body);
         }
     }
 
     /// A body for one of the functions of its type, in turn.
-    pub fn one(&mut self, kind: u8, body: &[u8]) {
+    pub fn one(&mut self, handshake_type: u8, body: &[u8]) {
         self.turn += 1;
-        let names = of_kind(kind);
+        let names = of_type(handshake_type);
         if !names.is_empty() {
             self.add(names[self.turn % names.len()], body);
         }
     }
 
     /// A body in a message and in a record.
-    pub fn wrapped(&mut self, kind: u8, body: &[u8]) {
-        let message = message(kind, body);
+    pub fn wrapped(&mut self, handshake_type: u8, body: &[u8]) {
+        let message = message(handshake_type, body);
         self.add(MESSAGE, &message);
-        if message.len() <= 0xffff {
-            self.add(PLAINTEXT, &record(0x16, &message));
+        if message.len() <= LONGEST {
+            self.add(PLAINTEXT, &record(HANDSHAKE, &message));
         }
     }
 
     /// A body everywhere: its own functions, a message, a record.
-    pub fn everywhere(&mut self, kind: u8, body: &[u8]) {
-        self.body(kind, body);
-        self.wrapped(kind, body);
+    pub fn everywhere(&mut self, handshake_type: u8, body: &[u8]) {
+        self.body(handshake_type, body);
+        self.wrapped(handshake_type, body);
     }
 
     /// A body for its own functions, and in turn in a message or in a record.
-    pub fn mostly(&mut self, kind: u8, body: &[u8]) {
+    pub fn mostly(&mut self, handshake_type: u8, body: &[u8]) {
         self.turn += 1;
-        self.body(kind, body);
-        let message = message(kind, body);
-        if self.turn.is_multiple_of(2) || message.len() > 0xffff {
+        self.body(handshake_type, body);
+        let message = message(handshake_type, body);
+        if self.turn.is_multiple_of(2) || message.len() > LONGEST {
             self.add(MESSAGE, &message);
         } else {
-            self.add(PLAINTEXT, &record(0x16, &message));
+            self.add(PLAINTEXT, &record(HANDSHAKE, &message));
         }
     }
 }
 
-/// A whole plaintext record of a type that the crate opens and the port sends
-/// elsewhere: the one place where the two answer differently by the paper.
+/// A whole plaintext record of a type that tls-parser opens and Norrabist sends elsewhere: the one
+/// place where the two answer differently by the rules (RULES 6).
 pub fn elsewhere(case: &Case) -> bool {
     let i = &case.input;
-    if case.function != PLAINTEXT || i.len() < 5 || !matches!(i[0], 0x14 | 0x15 | 0x17 | 0x18) {
+    if case.function != PLAINTEXT || i.len() < 5 || !ELSEWHERE.contains(&i[0]) {
         return false;
     }
     let length = usize::from(i[3]) << 8 | usize::from(i[4]);
-    length <= 16640 && length <= i.len() - 5
+    length <= limit::RECORD && length <= i.len() - 5
 }

@@ -3,36 +3,37 @@
 use super::collect::Cases;
 use super::good::short_bodies;
 use crate::bytes::{message, record};
-use crate::functions::{MESSAGE, PLAINTEXT};
 use crate::rng::Rng;
+use crate::table::record_type::HANDSHAKE;
+use crate::table::{kind, MESSAGE, PLAINTEXT};
 
 /// Short bodies cut at each place, alone and in messages and records that fit
 /// them; messages and records cut without being told so.
 pub fn add(cases: &mut Cases) {
-    for (kind, body) in short_bodies() {
-        for n in (0..body.len()).filter(|n| telling(kind, *n)) {
-            cases.mostly(kind, &body[..n]);
+    for (of, body) in short_bodies() {
+        for n in (0..body.len()).filter(|n| telling(of, *n)) {
+            cases.mostly(of, &body[..n]);
         }
-        let message = message(kind, &body);
-        let record = record(0x16, &message);
+        let message = message(of, &body);
+        let record = record(HANDSHAKE, &message);
         (0..message.len()).step_by(3).for_each(|n| cases.add(MESSAGE, &message[..n]));
         (0..record.len()).step_by(4).for_each(|n| cases.add(PLAINTEXT, &record[..n]));
-        off_by_one(cases, kind, &body);
+        off_by_one(cases, of, &body);
     }
 }
 
 /// Not inside the random of a ServerHello, where all places are alike.
-fn telling(kind: u8, at: usize) -> bool {
-    kind != 2 || !(4..33).contains(&at)
+fn telling(of: u8, at: usize) -> bool {
+    of != kind::ServerHello || !(4..33).contains(&at)
 }
 
 /// Each byte of a body made one more and one less: lengths are among them.
-fn off_by_one(cases: &mut Cases, kind: u8, body: &[u8]) {
-    for at in (0..body.len()).filter(|at| telling(kind, *at)) {
+fn off_by_one(cases: &mut Cases, of: u8, body: &[u8]) {
+    for at in (0..body.len()).filter(|at| telling(of, *at)) {
         for change in [1u8, 255] {
             let mut copy = body.to_vec();
             copy[at] = copy[at].wrapping_add(change);
-            cases.one(kind, &copy);
+            cases.one(of, &copy);
         }
     }
 }

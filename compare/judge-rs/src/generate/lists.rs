@@ -2,6 +2,7 @@
 
 use super::collect::Cases;
 use crate::bytes::{announced, counted, hex, join, run};
+use crate::table::kind;
 
 pub fn add(cases: &mut Cases) {
     certificates(cases);
@@ -36,11 +37,11 @@ fn certificates(cases: &mut Cases) {
     for list in lists {
         let list = hex(list);
         for n in [list.len().saturating_sub(1), list.len(), list.len() + 1] {
-            cases.mostly(11, &announced(3, n, &list));
+            cases.mostly(kind::Certificate, &announced(3, n, &list));
         }
     }
     for body in ["", "00", "0000", "ffffff", "00ffff", "000000ee", "000003000000ee"] {
-        cases.everywhere(11, &hex(body));
+        cases.everywhere(kind::Certificate, &hex(body));
     }
 }
 
@@ -48,12 +49,12 @@ fn large_certificates(cases: &mut Cases) {
     for n in [255usize, 256, 65536] {
         for announced_n in [n - 1, n, n + 1] {
             let item = announced(3, announced_n, &run(0x5a, n));
-            cases.body(11, &counted(3, &item));
+            cases.body(kind::Certificate, &counted(3, &item));
         }
     }
     // Nothing but empty items, with each possible remainder.
     for n in [60, 61, 62] {
-        cases.mostly(11, &counted(3, &run(0, n)));
+        cases.mostly(kind::Certificate, &counted(3, &run(0, n)));
     }
 }
 
@@ -65,7 +66,7 @@ fn requests(cases: &mut Cases) {
     for t in types {
         for p in pairs {
             for n in names {
-                cases.one(13, &join(&[&hex(t), &hex(p), &hex(n)]));
+                cases.one(kind::CertificateRequest, &join(&[&hex(t), &hex(p), &hex(n)]));
             }
         }
     }
@@ -101,24 +102,24 @@ fn request_forms(cases: &mut Cases) {
         "02 0140 0008 0002 aabb 0002 ccdd",
     ];
     for body in bodies {
-        cases.mostly(13, &hex(body));
+        cases.mostly(kind::CertificateRequest, &hex(body));
     }
 }
 
 fn large_requests(cases: &mut Cases) {
     for there in [254, 255, 256] {
         let types = announced(1, 255, &run(0x40, there));
-        cases.mostly(13, &types);
-        cases.mostly(13, &join(&[&types, &[0, 2, 4, 3, 0, 2, 0, 0]]));
+        cases.mostly(kind::CertificateRequest, &types);
+        cases.mostly(kind::CertificateRequest, &join(&[&types, &[0, 2, 4, 3, 0, 2, 0, 0]]));
     }
     // Pairs and one name as long as their lengths can say.
     for n in [65534usize, 65535] {
         let pairs = counted(2, &run(4, n));
         let name = counted(2, &counted(2, &run(0x5a, n - 2)));
-        cases.body(13, &join(&[&[0], &pairs, &[0, 0]]));
-        cases.body(13, &join(&[&[0], &pairs, &[0]]));
-        cases.body(13, &join(&[&[0, 0, 0], &name]));
-        cases.body(13, &join(&[&[0], &name]));
-        cases.body(13, &join(&[&[0], &name[..name.len() - 1]]));
+        cases.body(kind::CertificateRequest, &join(&[&[0], &pairs, &[0, 0]]));
+        cases.body(kind::CertificateRequest, &join(&[&[0], &pairs, &[0]]));
+        cases.body(kind::CertificateRequest, &join(&[&[0, 0, 0], &name]));
+        cases.body(kind::CertificateRequest, &join(&[&[0], &name]));
+        cases.body(kind::CertificateRequest, &join(&[&[0], &name[..name.len() - 1]]));
     }
 }

@@ -1,7 +1,5 @@
-//! The cases: first those that are the same for every seed, then drawn ones
-//! without end.
+//! The cases: first those that are the same for every seed, then drawn ones without end.
 
-mod bench;
 mod chance;
 mod collect;
 mod damage;
@@ -11,6 +9,7 @@ mod lists;
 mod messages;
 mod others;
 mod records;
+mod rows;
 mod writes;
 
 use crate::{case::Case, domain, rng::Rng};
@@ -54,10 +53,10 @@ fn hand_out(
     Ok(())
 }
 
-/// The cases that every run begins with, the readings of the paper first.
+/// The cases that every run begins with, the rows of RULES 8 first.
 fn fixed() -> Vec<Case> {
     let mut cases = Cases::default();
-    bench::add(&mut cases);
+    rows::add(&mut cases);
     hellos::add(&mut cases);
     others::add(&mut cases);
     lists::add(&mut cases);

@@ -1,9 +1,9 @@
-//! The bodies without lists: the functions with a length argument, the ticket,
-//! the status, the next protocol, the key update, the hello request.
+//! The bodies without lists: the functions with a length argument, the ticket, the status, the next
+//! protocol, the key update, the hello request.
 
 use super::collect::Cases;
 use crate::bytes::{announced, hex, join, run};
-use crate::functions::{MSG_TICKET, SIZED};
+use crate::table::{kind, limit, MSG_TICKET, SIZED};
 
 pub fn add(cases: &mut Cases) {
     lengths(cases);
@@ -11,10 +11,12 @@ pub fn add(cases: &mut Cases) {
     statuses(cases);
     next_protocols(cases);
     for body in ["", "00", "01", "ff", "0001", "00ff00"] {
-        [24, 0, 5].into_iter().for_each(|kind| cases.everywhere(kind, &hex(body)));
+        for of in [kind::KeyUpdate, kind::HelloRequest, kind::EndOfEarlyData] {
+            cases.everywhere(of, &hex(body));
+        }
     }
     for body in ["", "7f", "7f12", "7f1213", "7f121301", "0303", "03040000", "0000000000000000"] {
-        cases.mostly(6, &hex(body));
+        cases.mostly(kind::HelloRetryRequest, &hex(body));
     }
 }
 
@@ -25,7 +27,7 @@ fn lengths(cases: &mut Cases) {
         for there in sizes.iter().copied() {
             let input: Vec<u8> = (1..=there as u8).collect();
             let round = [there.saturating_sub(1), there, there + 1];
-            let large = [0xff_ffff, 1 << 32, u64::MAX];
+            let large = [limit::BODY as u64, 1 << 32, u64::MAX];
             for length in (0..=5).chain(round).chain(large) {
                 cases.add_sized(name, length, &input);
             }
@@ -37,10 +39,10 @@ fn lengths(cases: &mut Cases) {
 
 fn tickets(cases: &mut Cases) {
     for n in 0..=9 {
-        cases.everywhere(4, &hex("ff010203 0002aabbcc")[..n]);
+        cases.everywhere(kind::NewSessionTicket, &hex("ff010203 0002aabbcc")[..n]);
     }
-    cases.everywhere(4, &hex("ffffffff"));
-    cases.everywhere(4, &join(&[&[0; 4], &run(0x5a, 400)]));
+    cases.everywhere(kind::NewSessionTicket, &hex("ffffffff"));
+    cases.everywhere(kind::NewSessionTicket, &join(&[&[0; 4], &run(0x5a, 400)]));
     for length in [u64::MAX - 3, u64::MAX - 4, (1 << 63) + 4, (1 << 32) + 4] {
         cases.add_sized(MSG_TICKET, length, &hex("00000e10 aabb"));
     }
@@ -49,15 +51,15 @@ fn tickets(cases: &mut Cases) {
 fn statuses(cases: &mut Cases) {
     for body in ["", "01", "0100", "010000", "01000000", "00000000", "ff000001", "01000001aa", "01000001aaee"]
     {
-        cases.everywhere(22, &hex(body));
+        cases.everywhere(kind::CertificateStatus, &hex(body));
     }
     for n in [255usize, 65536] {
         for there in [n - 1, n, n + 1] {
             let blob = announced(3, n, &run(0x5a, there));
-            cases.mostly(22, &join(&[&[1], &blob]));
+            cases.mostly(kind::CertificateStatus, &join(&[&[1], &blob]));
         }
     }
-    cases.everywhere(22, &hex("01ffffff"));
+    cases.everywhere(kind::CertificateStatus, &hex("01ffffff"));
 }
 
 fn next_protocols(cases: &mut Cases) {
@@ -76,12 +78,14 @@ fn next_protocols(cases: &mut Cases) {
         "01aa01bbee",
         "0001aaee",
     ] {
-        cases.mostly(67, &hex(body));
+        cases.mostly(kind::NextProtocol, &hex(body));
     }
     for there in [254, 255, 256, 257] {
-        cases.mostly(67, &announced(1, 255, &run(0x5a, there)));
-        cases.mostly(67, &join(&[&[0], &announced(1, 255, &run(0x5a, there))]));
-        cases
-            .mostly(67, &join(&[&announced(1, 255, &run(0x5a, 255)), &announced(1, 255, &run(0xa5, there))]));
+        cases.mostly(kind::NextProtocol, &announced(1, 255, &run(0x5a, there)));
+        cases.mostly(kind::NextProtocol, &join(&[&[0], &announced(1, 255, &run(0x5a, there))]));
+        cases.mostly(
+            kind::NextProtocol,
+            &join(&[&announced(1, 255, &run(0x5a, 255)), &announced(1, 255, &run(0xa5, there))]),
+        );
     }
 }

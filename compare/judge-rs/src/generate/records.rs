@@ -2,7 +2,9 @@
 
 use super::collect::Cases;
 use crate::bytes::{be, hex, join, run};
-use crate::functions::{ENCRYPTED, HEADER, PLAINTEXT, RAW};
+use crate::table::record_type::{ELSEWHERE, HANDSHAKE};
+use crate::table::version::{DRAFT_18, SSL30, TLS10, TLS13};
+use crate::table::{limit, ENCRYPTED, HEADER, PLAINTEXT, RAW};
 
 const READERS: [&str; 3] = [RAW, ENCRYPTED, PLAINTEXT];
 
@@ -15,11 +17,11 @@ pub fn add(cases: &mut Cases) {
 
 fn types(cases: &mut Cases) {
     let body = hex("0303 0004 00000000");
-    for kind in 0..=255u8 {
-        READERS.into_iter().for_each(|f| cases.add(f, &join(&[&[kind], &body])));
+    for of in 0..=0xff {
+        READERS.into_iter().for_each(|f| cases.add(f, &join(&[&[of], &body])));
     }
-    for kind in [0u8, 0x13, 0x14, 0x15, 0x16, 0x17, 0x18, 0x19, 0xff] {
-        cases.add(HEADER, &join(&[&[kind], &body]));
+    for of in [0x00, 0x13, 0x14, 0x15, 0x16, 0x17, 0x18, 0x19, 0xff] {
+        cases.add(HEADER, &join(&[&[of], &body]));
     }
 }
 
@@ -29,30 +31,32 @@ fn headers(cases: &mut Cases) {
     for n in 0..=whole.len() {
         READERS.into_iter().chain([HEADER]).for_each(|f| cases.add(f, &whole[..n]));
     }
-    for version in [0usize, 0x0002, 0x0300, 0x0301, 0x0304, 0x7f12, 0xfeff, 0xffff] {
-        let input = join(&[&[0x16], &be(2, version), &hex("0004 0e000000")]);
+    for version in [0, 0x0002, SSL30, TLS10, TLS13, DRAFT_18, 0xfeff, 0xffff] {
+        let input = join(&[&[HANDSHAKE], &version.to_be_bytes(), &hex("0004 0e000000")]);
         READERS.into_iter().chain([HEADER]).for_each(|f| cases.add(f, &input));
     }
 }
 
 /// Each length without its body, with one byte less, as many, and one more.
 fn lengths(cases: &mut Cases) {
-    for n in [0usize, 1, 255, 16383, 16384, 16639, 16640, 16641, 32768, 65535] {
+    let most = limit::RECORD;
+    for n in [0, 1, 255, 16383, 16384, most - 1, most, most + 1, 32768, 65535] {
         for there in [0, n.saturating_sub(1), n, n + 1] {
-            let input = join(&[&[0x16, 3, 1], &be(2, n), &run(0, there)]);
+            let input = join(&[&hex("16 0301"), &be(2, n), &run(0, there)]);
             READERS.into_iter().for_each(|f| cases.add(f, &input));
         }
-        cases.add(HEADER, &join(&[&[0x16, 3, 1], &be(2, n)]));
-        cases.add(HEADER, &join(&[&[0x17, 3, 3], &be(2, n), &run(0, n)]));
+        cases.add(HEADER, &join(&[&hex("16 0301"), &be(2, n)]));
+        cases.add(HEADER, &join(&[&hex("17 0303"), &be(2, n), &run(0, n)]));
         other_types(cases, n);
     }
 }
 
 /// The order of the refusals before the type is looked at.
 fn other_types(cases: &mut Cases, n: usize) {
-    for kind in [0x14u8, 0x15, 0x17, 0x18, 0x19] {
+    for of in ELSEWHERE.into_iter().chain([0x19]) {
         for there in [0, n.saturating_sub(1)] {
-            cases.add(PLAINTEXT, &join(&[&[kind, 3, 1], &be(2, n), &run(0, there)]));
+            let head = join(&[&[of], &TLS10.to_be_bytes(), &be(2, n)]);
+            cases.add(PLAINTEXT, &join(&[&head, &run(0, there)]));
         }
     }
 }

@@ -2,7 +2,7 @@
 #![allow(clippy::ptr_arg)] // they all have one type
 
 use judge::case::Case;
-use judge::functions::*;
+use judge::table::*;
 
 /// Of a body the random begins behind the version.
 pub fn longer(case: &Case, to: &mut Vec<u64>) {

@@ -1,9 +1,12 @@
 //! Faults of the readers: each changes the numbers of some answers.
 #![allow(clippy::ptr_arg)] // they all have one type
 
-use crate::port::Walk;
+use crate::norrabist::Walk;
 use judge::case::Case;
-use judge::functions::*;
+use judge::table::record_type::ALERT;
+use judge::table::refusal::{ELSEWHERE, INCOMPLETE, LENGTH_VALUE, SWITCH, TAG};
+use judge::table::version::SSL30;
+use judge::table::*;
 
 pub fn rest(case: &Case, to: &mut Vec<u64>) {
     if case.function == MSG_CLIENT_HELLO && to[0] == 0 {
@@ -12,20 +15,20 @@ pub fn rest(case: &Case, to: &mut Vec<u64>) {
 }
 
 pub fn refusal(_: &Case, to: &mut Vec<u64>) {
-    if *to == [4] {
-        *to = vec![1];
+    if *to == [LENGTH_VALUE] {
+        *to = vec![INCOMPLETE];
     }
 }
 
 pub fn refused(case: &Case, to: &mut Vec<u64>) {
-    if case.function == SERVER_HELLO && case.input.starts_with(&[3, 0]) && to[0] == 0 {
-        *to = vec![5];
+    if case.function == SERVER_HELLO && case.input.starts_with(&SSL30.to_be_bytes()) && to[0] == 0 {
+        *to = vec![TAG];
     }
 }
 
 pub fn accepted(case: &Case, to: &mut Vec<u64>) {
-    if case.function == MSG_KEY_UPDATE && *to == [1] {
-        *to = vec![0, 0, 24, 0];
+    if case.function == MSG_KEY_UPDATE && *to == [INCOMPLETE] {
+        *to = vec![0, 0, kind::KeyUpdate.into(), 0];
     }
 }
 
@@ -71,7 +74,11 @@ pub fn absent(case: &Case, to: &mut Vec<u64>) {
 
 /// Of a record of HelloRequests, which have a kind alone.
 pub fn message(case: &Case, to: &mut Vec<u64>) {
-    if case.function == PLAINTEXT && to[0] == 0 && to[5] >= 2 && to[6..].iter().all(|kind| *kind == 0) {
+    if case.function == PLAINTEXT
+        && to[0] == 0
+        && to[5] >= 2
+        && to[6..].iter().all(|n| *n == kind::HelloRequest.into())
+    {
         to[5] -= 1;
         to.pop();
     }
@@ -85,13 +92,13 @@ pub fn more(case: &Case, to: &mut Vec<u64>) {
 
 pub fn huge(case: &Case, to: &mut Vec<u64>) {
     if case.function == MSG_SERVER_DONE && case.length > Some(u64::from(u32::MAX)) {
-        *to = vec![0, 0, 14, 0, 0];
+        *to = vec![0, 0, kind::ServerDone.into(), 0, 0];
     }
 }
 
 pub fn alert(case: &Case, to: &mut Vec<u64>) {
-    if case.input.first() == Some(&0x15) && *to == [10] {
-        *to = vec![6];
+    if case.input.first() == Some(&ALERT) && *to == [ELSEWHERE] {
+        *to = vec![SWITCH];
     }
 }
 
@@ -104,5 +111,5 @@ pub fn dropped(walk: Walk) -> Walk {
 }
 
 pub fn ended(walk: Walk) -> Walk {
-    Walk { end: if walk.messages > 1 { 1 } else { walk.end }, ..walk }
+    Walk { end: if walk.messages > 1 { INCOMPLETE } else { walk.end }, ..walk }
 }

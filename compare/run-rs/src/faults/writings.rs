@@ -2,7 +2,8 @@
 
 use super::Wrote;
 use judge::case::Case;
-use judge::functions::*;
+use judge::table::refusal::{BAD_LENGTH, NOT_YET_IMPLEMENTED, NO_ROOM, TOO_LARGE};
+use judge::table::*;
 
 pub fn byte(case: &Case, _: &[u8], room: &mut [u8], wrote: Wrote) -> Wrote {
     if let (GEN_CLIENT_HELLO, Ok(n)) = (case.function, wrote) {
@@ -25,29 +26,29 @@ pub fn count(case: &Case, _: &[u8], _: &mut [u8], wrote: Wrote) -> Wrote {
 pub fn fits(case: &Case, before: &[u8], room: &mut [u8], wrote: Wrote) -> Wrote {
     if case.function == GEN_CLIENT_KEY && wrote == Ok(room.len()) {
         room.copy_from_slice(before);
-        return Err(9);
+        return Err(NO_ROOM);
     }
     wrote
 }
 
 pub fn touched(case: &Case, _: &[u8], room: &mut [u8], wrote: Wrote) -> Wrote {
-    if case.function == GEN_PLAINTEXT && wrote == Err(9) {
+    if case.function == GEN_PLAINTEXT && wrote == Err(NO_ROOM) {
         room[0] = !room[0];
     }
     wrote
 }
 
 pub fn cut(case: &Case, _: &[u8], room: &mut [u8], wrote: Wrote) -> Wrote {
-    if case.function == GEN_SERVER_HELLO && wrote == Err(8) {
+    if case.function == GEN_SERVER_HELLO && wrote == Err(BAD_LENGTH) {
         return Ok(room.len().min(4));
     }
     wrote
 }
 
 pub fn large(_: &Case, _: &[u8], _: &mut [u8], wrote: Wrote) -> Wrote {
-    wrote.map_err(|number| if number == 7 { 8 } else { number })
+    wrote.map_err(|number| if number == TOO_LARGE { BAD_LENGTH } else { number })
 }
 
 pub fn order(_: &Case, _: &[u8], room: &mut [u8], wrote: Wrote) -> Wrote {
-    wrote.map_err(|number| if number == 12 && room.is_empty() { 9 } else { number })
+    wrote.map_err(|number| if number == NOT_YET_IMPLEMENTED && room.is_empty() { NO_ROOM } else { number })
 }

@@ -1,14 +1,15 @@
 //! Cases of the writers drawn by chance.
 
-use super::super::chance::{drawn_message, hello_body};
+use super::super::chance::{drawn_message, hello_body, hello_type};
 use super::super::damage::harm;
 use super::messages::is_message;
 use super::others::LONG;
 use crate::bytes::{message, run};
 use crate::case::Case;
-use crate::functions::*;
 use crate::made::{Client, Draft, Key, Record, Server};
 use crate::rng::Rng;
+use crate::table::record_type::HANDSHAKE;
+use crate::table::*;
 use crate::write;
 
 /// One case; `good` are messages to be damaged.
@@ -28,7 +29,8 @@ pub fn draw(rng: &mut Rng, good: &[Vec<u8>]) -> Case {
 
 fn version(rng: &mut Rng) -> u16 {
     let any = rng.number() as u16;
-    *rng.pick(&[0x0303, 0x0303, 0x0302, 0x0301, 0x0300, 0x7f12, any, any])
+    let named = [version::TLS12, version::TLS12, version::TLS11, version::TLS10, version::SSL30];
+    *rng.pick(&[&named[..], &[version::DRAFT_18, any, any]].concat())
 }
 
 /// A length from none to the limit: mostly short, at times at the limit.
@@ -79,33 +81,33 @@ fn optional(rng: &mut Rng, limit: usize) -> Option<Vec<u8>> {
 
 fn random(rng: &mut Rng) -> Vec<u8> {
     if rng.below(4) == 0 {
-        return run(rng.byte(), 32);
+        return run(rng.byte(), limit::RANDOM);
     }
-    rng.bytes(32)
+    rng.bytes(limit::RANDOM)
 }
 
 fn ciphers(rng: &mut Rng) -> Vec<u8> {
-    let mut list = part(rng, 65_534);
+    let mut list = part(rng, limit::CIPHERS);
     list.truncate(list.len() / 2 * 2);
     list
 }
 
 fn client(rng: &mut Rng) -> Vec<u8> {
-    let (random, id, ciphers) = (random(rng), optional(rng, 32), ciphers(rng));
-    let (methods, ext) = (part(rng, 255), optional(rng, 65_535));
+    let (random, id, ciphers) = (random(rng), optional(rng, limit::ID), ciphers(rng));
+    let (methods, ext) = (part(rng, limit::METHODS), optional(rng, limit::EXTENSIONS));
     let (id, ext) = (id.as_deref(), ext.as_deref());
     Client { version: version(rng), random: &random, id, ciphers: &ciphers, methods: &methods, ext }.bytes()
 }
 
 fn server(rng: &mut Rng) -> Vec<u8> {
-    let (random, id, ext) = (random(rng), optional(rng, 32), optional(rng, 65_535));
+    let (random, id, ext) = (random(rng), optional(rng, limit::ID), optional(rng, limit::EXTENSIONS));
     let (cipher, compression) = (rng.number() as u16, rng.byte());
     let (id, ext) = (id.as_deref(), ext.as_deref());
     Server { version: version(rng), cipher, compression, random: &random, id, ext }.bytes()
 }
 
 fn draft(rng: &mut Rng) -> Vec<u8> {
-    let (random, ext) = (random(rng), optional(rng, 65_535));
+    let (random, ext) = (random(rng), optional(rng, limit::EXTENSIONS));
     let cipher = rng.number() as u16;
     Draft { version: version(rng), cipher, random: &random, ext: ext.as_deref() }.bytes()
 }
@@ -113,8 +115,8 @@ fn draft(rng: &mut Rng) -> Vec<u8> {
 fn key(rng: &mut Rng) -> Vec<u8> {
     match rng.below(3) {
         0 => Key::Unknown(&part(rng, LONG)).bytes(),
-        1 => Key::Dh(&part(rng, 65_535)).bytes(),
-        _ => Key::Ecdh(&part(rng, 255)).bytes(),
+        1 => Key::Dh(&part(rng, limit::DH)).bytes(),
+        _ => Key::Ecdh(&part(rng, limit::POINT)).bytes(),
     }
 }
 
@@ -125,8 +127,8 @@ fn one_message(rng: &mut Rng, good: &[Vec<u8>]) -> Vec<u8> {
             0 => drawn_message(rng),
             1 => rng.pick(good).clone(),
             _ => {
-                let kind = 1 + rng.below(2) as u8;
-                message(kind, &hello_body(rng, kind))
+                let hello = hello_type(rng);
+                message(hello, &hello_body(rng, hello))
             }
         };
         if rng.below(3) == 0 {
@@ -141,12 +143,12 @@ fn one_message(rng: &mut Rng, good: &[Vec<u8>]) -> Vec<u8> {
 /// A record of any type round up to four written messages; where they are too long
 /// together, or one comes back otherwise when read, they are drawn again.
 fn record(rng: &mut Rng) -> Vec<u8> {
-    let kind = if rng.below(2) == 0 { 0x16 } else { rng.byte() };
+    let record_type = if rng.below(2) == 0 { HANDSHAKE } else { rng.byte() };
     let version = version(rng);
     loop {
         let content: Vec<u8> = (0..rng.below(5)).flat_map(|_| written(rng)).collect();
-        if content.len() <= 16_640 && write::is_written(&content) {
-            return Record { kind, version, content: &content }.bytes();
+        if content.len() <= limit::RECORD && write::is_written(&content) {
+            return Record { record_type, version, content: &content }.bytes();
         }
     }
 }
@@ -157,7 +159,7 @@ fn written(rng: &mut Rng) -> Vec<u8> {
         1 | 2 => write::server(&Server::read(&server(rng))),
         3 => write::draft(&Draft::read(&draft(rng))),
         4 => write::key(&Key::read(&key(rng))),
-        5 => write::finished(&part(rng, 16_636)),
+        5 => write::finished(&part(rng, limit::RECORD - 4)),
         6 => write::finished(&rng.bytes(12)),
         _ => Ok(vec![0; 4]),
     };

@@ -2,8 +2,9 @@
 
 use super::super::collect::Cases;
 use crate::bytes::{counting, run, telling};
-use crate::functions::{GEN_CLIENT_HELLO, GEN_DRAFT_18, GEN_SERVER_HELLO};
 use crate::made::{Client, Draft, Server};
+use crate::table::version::{DRAFT_18, SSL30, TLS10, TLS11, TLS12, TLS13};
+use crate::table::{limit, GEN_CLIENT_HELLO, GEN_DRAFT_18, GEN_SERVER_HELLO};
 use crate::write;
 
 /// All different, so that a byte tells its place.
@@ -18,7 +19,7 @@ const RANDOM: [u8; 32] = {
 };
 
 pub const CLIENT: Client = Client {
-    version: 0x0303,
+    version: TLS12,
     random: &RANDOM,
     id: None,
     ciphers: &[0x13, 1, 0xc0, 0x2f],
@@ -26,11 +27,11 @@ pub const CLIENT: Client = Client {
     ext: None,
 };
 pub const SERVER: Server =
-    Server { version: 0x0303, cipher: 0xc02f, compression: 1, random: &RANDOM, id: None, ext: None };
-pub const DRAFT: Draft = Draft { version: 0x7f12, cipher: 0x1302, random: &RANDOM, ext: None };
+    Server { version: TLS12, cipher: 0xc02f, compression: 1, random: &RANDOM, id: None, ext: None };
+pub const DRAFT: Draft = Draft { version: DRAFT_18, cipher: 0x1302, random: &RANDOM, ext: None };
 
-const VERSIONS: [u16; 10] = [0, 1, 0x00ff, 0x0300, 0x0301, 0x0302, 0x0303, 0x0304, 0x7f12, 0xffff];
-const IDS: [Option<usize>; 6] = [None, Some(0), Some(1), Some(2), Some(31), Some(32)];
+const VERSIONS: [u16; 10] = [0, 1, 0x00ff, SSL30, TLS10, TLS11, TLS12, TLS13, DRAFT_18, 0xffff];
+const IDS: [Option<usize>; 6] = [None, Some(0), Some(1), Some(2), Some(limit::ID - 1), Some(limit::ID)];
 const BLOCKS: [Option<usize>; 12] = [
     None,
     Some(0),
@@ -42,8 +43,8 @@ const BLOCKS: [Option<usize>; 12] = [
     Some(16_383),
     Some(16_384),
     Some(16_385),
-    Some(65_534),
-    Some(65_535),
+    Some(limit::EXTENSIONS - 1),
+    Some(limit::EXTENSIONS),
 ];
 
 pub fn add(cases: &mut Cases) {
@@ -110,7 +111,7 @@ fn blocks(cases: &mut Cases) {
         client(cases, Client { ext, ..CLIENT });
         client(cases, Client { ext, ciphers: &[], methods: &[], id: Some(&RANDOM), ..CLIENT });
         server(cases, Server { ext, ..SERVER });
-        server(cases, Server { ext, version: 0x0300, id: Some(&RANDOM), ..SERVER });
+        server(cases, Server { ext, version: SSL30, id: Some(&RANDOM), ..SERVER });
         draft(cases, Draft { ext, ..DRAFT });
     }
 }
@@ -127,19 +128,21 @@ fn numbers(cases: &mut Cases) {
 }
 
 fn ciphers(cases: &mut Cases) {
-    for n in [0usize, 2, 4, 6, 254, 256, 258, 16_382, 16_384, 32_766, 32_768, 65_532, 65_534] {
+    for n in
+        [0usize, 2, 4, 6, 254, 256, 258, 16_382, 16_384, 32_766, 32_768, limit::CIPHERS - 2, limit::CIPHERS]
+    {
         client(cases, Client { ciphers: &telling(n), ..CLIENT });
         client(cases, Client { ciphers: &telling(n), methods: &[], ext: Some(&[0xaa; 3]), ..CLIENT });
     }
-    client(cases, Client { ciphers: &run(0, 65_534), ..CLIENT });
-    client(cases, Client { ciphers: &run(0xff, 65_534), ..CLIENT });
+    client(cases, Client { ciphers: &run(0, limit::CIPHERS), ..CLIENT });
+    client(cases, Client { ciphers: &run(0xff, limit::CIPHERS), ..CLIENT });
     // Numbers whose two bytes differ, many of them.
     let pairs: Vec<u8> = (0..400u16).flat_map(|k| (k * 163).to_be_bytes()).collect();
     client(cases, Client { ciphers: &pairs, ..CLIENT });
 }
 
 fn methods(cases: &mut Cases) {
-    for n in [0usize, 1, 2, 127, 128, 254, 255] {
+    for n in [0, 1, 2, 127, 128, limit::METHODS - 1, limit::METHODS] {
         client(cases, Client { methods: &counting(n), ..CLIENT });
         client(cases, Client { methods: &run(0, n), ciphers: &[], ext: Some(&[0xaa; 3]), ..CLIENT });
     }
@@ -147,9 +150,9 @@ fn methods(cases: &mut Cases) {
 
 /// Parts of unlike lengths, each with each.
 fn together(cases: &mut Cases) {
-    for id in [None, Some(0), Some(32)] {
+    for id in [None, Some(0), Some(limit::ID)] {
         for ciphers in [0, 300] {
-            for methods in [0, 255] {
+            for methods in [0, limit::METHODS] {
                 for ext in [None, Some(0), Some(1), Some(300)] {
                     several(cases, id, ciphers, methods, ext);
                 }
@@ -167,7 +170,8 @@ fn several(cases: &mut Cases, id: Option<usize>, ciphers: usize, methods: usize,
 
 /// Every part as long as it can be, and each of them one shorter.
 fn longest(cases: &mut Cases) {
-    let (id, ciphers, methods, ext) = (counting(32), telling(65_534), run(0, 255), telling(65_535));
+    let (id, ciphers) = (counting(limit::ID), telling(limit::CIPHERS));
+    let (methods, ext) = (run(0, limit::METHODS), telling(limit::EXTENSIONS));
     let full = Client { id: Some(&id), ciphers: &ciphers, methods: &methods, ext: Some(&ext), ..CLIENT };
     assert_eq!(write::client(&full).expect("a hello").len(), 4 + 131_396);
     client(cases, full);
@@ -175,7 +179,7 @@ fn longest(cases: &mut Cases) {
     client(cases, Client { ciphers: &ciphers[2..], ..full });
     client(cases, Client { methods: &methods[1..], ..full });
     client(cases, Client { ext: Some(&ext[1..]), ..full });
-    let zeros = run(0, 65_534);
+    let zeros = run(0, limit::CIPHERS);
     client(cases, Client { random: &zeros[..32], ciphers: &zeros, ext: Some(&zeros), ..full });
     server(cases, Server { id: Some(&id), ext: Some(&ext), ..SERVER });
     draft(cases, Draft { ext: Some(&ext), ..DRAFT });

@@ -3,7 +3,7 @@
 
 use super::super::{collect::Cases, fixed, good as inputs};
 use crate::case::Case;
-use crate::functions::{GEN_MESSAGE, MESSAGE};
+use crate::table::{GEN_MESSAGE, MESSAGE};
 use crate::write;
 
 pub fn add(cases: &mut Cases) {

@@ -1,5 +1,5 @@
-//! The cases of the writers: first those that are the same for every seed, then
-//! drawn ones without end. All lie in the domain (domain.rs).
+//! The cases of the writers: first those that are the same for every seed, then drawn ones without
+//! end. All lie in the domain (domain.rs).
 
 mod chance;
 mod hellos;

@@ -1,12 +1,12 @@
-//! The messages of one part to be written: the key exchange, Finished, and the
-//! hello request, which has none.
+//! The messages of one part to be written: the key exchange, Finished, and the hello request, which
+//! has none.
 
 use super::super::collect::Cases;
 use crate::bytes::{run, telling};
-use crate::functions::{GEN_CLIENT_KEY, GEN_FINISHED, GEN_HELLO_REQUEST};
 use crate::made::Key;
+use crate::table::{kind, limit, GEN_CLIENT_KEY, GEN_FINISHED, GEN_HELLO_REQUEST};
 
-/// No part is longer in a case: the port's program has room for some more.
+/// No part is longer in a case: an input has some bytes more at most (`domain::ROOM`).
 pub const LONG: usize = 100_000;
 
 const EDGES: [usize; 24] = [
@@ -24,7 +24,8 @@ pub fn add(cases: &mut Cases) {
         put(cases, &run(0xff, n));
     }
     // Bytes that look like a length or a head of their own.
-    for part in [&[0, 0][..], &[0, 1, 0xaa], &[1, 0xaa], &[0x10, 0, 0, 1, 0xaa], &[0x14, 0, 0, 0]] {
+    let heads = [&[kind::ClientKeyExchange, 0, 0, 1, 0xaa][..], &[kind::Finished, 0, 0, 0]];
+    for part in [&[0, 0][..], &[0, 1, 0xaa], &[1, 0xaa]].into_iter().chain(heads) {
         put(cases, part);
     }
 }
@@ -33,10 +34,10 @@ pub fn add(cases: &mut Cases) {
 fn put(cases: &mut Cases, part: &[u8]) {
     cases.add(GEN_FINISHED, part);
     cases.add(GEN_CLIENT_KEY, &Key::Unknown(part).bytes());
-    if part.len() <= 65_535 {
+    if part.len() <= limit::DH {
         cases.add(GEN_CLIENT_KEY, &Key::Dh(part).bytes());
     }
-    if part.len() <= 255 {
+    if part.len() <= limit::POINT {
         cases.add(GEN_CLIENT_KEY, &Key::Ecdh(part).bytes());
     }
 }

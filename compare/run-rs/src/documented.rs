@@ -2,9 +2,9 @@
 
 use crate::listed::ALL;
 
-const PAPER: &str = include_str!("../../../docs/DIFFERENCES.md");
+const DIFFERENCES: &str = include_str!("../../../docs/DIFFERENCES.md");
 
-/// The first difference that the paper has not, by heading and item.
+/// The first difference that it has not, by heading and item.
 pub fn missing() -> Option<String> {
     ALL.into_iter().map(|listed| listed.place()).find_map(|(heading, item)| {
         let there = section(heading).is_some_and(|text| text.contains(&item.to_lowercase()));
@@ -14,7 +14,7 @@ pub fn missing() -> Option<String> {
 
 /// The text under a heading in small letters, with one blank between words.
 fn section(heading: &str) -> Option<String> {
-    let sections = PAPER.split("\n## ");
+    let sections = DIFFERENCES.split("\n## ");
     let text = sections.into_iter().find_map(|section| section.strip_prefix(heading)?.strip_prefix('\n'))?;
     Some(text.to_lowercase().split_whitespace().collect::<Vec<_>>().join(" "))
 }

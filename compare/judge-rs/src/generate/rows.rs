@@ -1,9 +1,10 @@
-//! The readings to keep on the bench, in the order and the bytes of the paper;
-//! row 15 is a writing. Then the same bytes for the sister functions.
+//! The rows of RULES 8, in their order and bytes; row 15 is a writing. Then the same bytes for the
+//! sister functions.
 
 use super::collect::Cases;
 use crate::bytes::{hex, message, record};
-use crate::functions::*;
+use crate::table::record_type::HANDSHAKE;
+use crate::table::*;
 
 /// (function, input); Z stands for 32 zero bytes, H for the shortest hello.
 const ROWS: [(&str, &str); 23] = [
@@ -40,7 +41,7 @@ pub fn add(cases: &mut Cases) {
         sisters(cases, name, &bytes(text));
     }
     let more = bytes("0303 Z 00 0002 00");
-    cases.everywhere(1, &more);
+    cases.everywhere(kind::ClientHello, &more);
 }
 
 fn bytes(text: &str) -> Vec<u8> {
@@ -48,16 +49,17 @@ fn bytes(text: &str) -> Vec<u8> {
     hex(&text.replace('H', "0303 Z 00 0000 00").replace('Z', &z))
 }
 
-/// A body goes to all functions of its type, a message into a record, a record
-/// to all record readers.
+/// A body goes to all functions of its type, a message into a record, a record to all record
+/// readers.
 fn sisters(cases: &mut Cases, name: &'static str, input: &[u8]) {
     match name {
-        MESSAGE => cases.add(PLAINTEXT, &record(0x16, input)),
+        MESSAGE => cases.add(PLAINTEXT, &record(HANDSHAKE, input)),
         PLAINTEXT => [HEADER, RAW, ENCRYPTED].into_iter().for_each(|f| cases.add(f, input)),
         _ => {
-            let kind = KINDS.into_iter().find(|k| of_kind(*k).contains(&name)).expect("a body");
-            cases.everywhere(kind, input);
-            cases.add(MESSAGE, &[message(kind, input), vec![0xee]].concat());
+            let of_name = |of: &u8| of_type(*of).contains(&name);
+            let handshake_type = TYPES.into_iter().find(of_name).expect("a body");
+            cases.everywhere(handshake_type, input);
+            cases.add(MESSAGE, &[message(handshake_type, input), vec![0xee]].concat());
         }
     }
 }

@@ -1,8 +1,8 @@
-//! What the comparison asks of the port.
+//! What the comparison asks of Norrabist.
 
 use judge::case::Case;
 
-pub trait Port {
+pub trait Norrabist {
     /// The numbers of a reader's answer, put behind those that are there.
     fn read(&self, case: &Case, to: &mut Vec<u64>);
 
@@ -17,7 +17,7 @@ pub trait Port {
     fn write(&self, case: &Case, room: &mut [u8]) -> Result<usize, u64>;
 }
 
-/// What the port adds to a plaintext record.
+/// What Norrabist adds to a plaintext record.
 #[derive(Clone, Copy, Debug, PartialEq, Eq)]
 pub struct Walk {
     /// How many messages the walk meets.

@@ -1,4 +1,4 @@
-//! The port's side: the same work, by the same names.
+//! Norrabist's side: the same work, by the same names.
 
 use norrabist::*;
 

@@ -1,4 +1,4 @@
-//! The crate's side: records and messages opened, and all that is in them visited.
+//! tls-parser's side: records and messages opened, and all that is in them visited.
 
 use tls_parser::*;
 

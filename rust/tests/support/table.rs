@@ -1,0 +1,114 @@
+//! The readers of Norrabist, by their names: a row for each kind of handshake message has its
+//! readers and, in brackets, what it holds, which `values.rs` tells.
+
+use super::sheet::Sheet;
+use super::values::Told;
+use norrabist::*;
+
+/// Makes of the rows the readers' names, their calls, and what tells a message.
+macro_rules! table {
+    (
+        whole { $($whole:ident;)* }
+        kinds { $(
+            $kind:ident $(($value:ident))?
+            $(, contents $contents:ident)?
+            $(, message $message:ident)?
+            $(, sized $sized:ident)?;
+        )* }
+        shared { $($twin:ident($twin_value:ident) = $version:ident;)* }
+    ) => {
+        /// The readers' names, in the order of the table.
+        pub const READERS: &[&str] = &[
+            $(stringify!($whole),)*
+            $($(stringify!($contents),)? $(stringify!($message),)? $(stringify!($sized),)?)*
+        ];
+
+        /// The numbers of a reader's answer; none where there is no such reader, or the length is
+        /// one too many or missing.
+        pub fn read(name: &str, len: Option<usize>, i: &[u8]) -> Option<Vec<u64>> {
+            Some(match (name, len) {
+                $((stringify!($whole), None) => told(i, $whole(i)),)*
+                $(
+                    $((stringify!($contents), None) => told(i, $contents(i)),)?
+                    $((stringify!($message), None) => told(i, $message(i)),)?
+                    $((stringify!($sized), Some(len)) => told(i, $sized(i, len)),)?
+                )*
+                _ => return None,
+            })
+        }
+
+        /// The number of the kind, which is its type or its version, and what it holds.
+        impl Told for TlsMessageHandshake<'_> {
+            fn told(&self, s: &mut Sheet) {
+                match self {
+                    $(TlsMessageHandshake::$kind $(($value))? => {
+                        s.number(TlsHandshakeType::$kind.0);
+                        $($value.told(s);)?
+                    })*
+                    $(TlsMessageHandshake::$twin($twin_value) => {
+                        s.number(TlsVersion::$version.0);
+                        $twin_value.told(s);
+                    })*
+                }
+            }
+        }
+    };
+}
+
+table! {
+    // records and messages
+    whole {
+        parse_tls_record_header;
+        parse_tls_raw_record;
+        parse_tls_encrypted;
+        parse_tls_plaintext;
+        parse_tls_message_handshake;
+    }
+    // the readers of bodies: of the contents alone, of a message, of a message by its length
+    kinds {
+        ClientHello(hello),
+            contents parse_tls_handshake_client_hello,
+            message parse_tls_handshake_msg_client_hello;
+        ServerHello(hello),
+            contents parse_tls_handshake_server_hello,
+            message parse_tls_handshake_msg_server_hello;
+        HelloRequest, message parse_tls_handshake_msg_hello_request;
+        NewSessionTicket(ticket), sized parse_tls_handshake_msg_newsessionticket;
+        EndOfEarlyData;
+        HelloRetryRequest(retry), message parse_tls_handshake_msg_hello_retry_request;
+        Certificate(chain), message parse_tls_handshake_msg_certificate;
+        ServerKeyExchange(key), sized parse_tls_handshake_msg_serverkeyexchange;
+        ServerDone(body), sized parse_tls_handshake_msg_serverdone;
+        CertificateVerify(body), sized parse_tls_handshake_msg_certificateverify;
+        ClientKeyExchange(key), sized parse_tls_handshake_msg_clientkeyexchange;
+        CertificateRequest(request),
+            contents parse_tls_handshake_certificaterequest,
+            message parse_tls_handshake_msg_certificaterequest;
+        Finished(body), sized parse_tls_handshake_msg_finished;
+        CertificateStatus(status),
+            contents parse_tls_handshake_certificatestatus,
+            message parse_tls_handshake_msg_certificatestatus;
+        NextProtocol(protocol),
+            contents parse_tls_handshake_next_protocol,
+            message parse_tls_handshake_msg_next_protocol;
+        KeyUpdate(request), message parse_tls_handshake_msg_key_update;
+    }
+    // a kind that shares its type, and is told by its version
+    shared {
+        ServerHelloV13Draft18(hello) = Tls13Draft18;
+    }
+}
+
+/// 0, the place of the rest and the values; or the number of the refusal alone.
+fn told<T: Told>(input: &[u8], got: Read<T>) -> Vec<u64> {
+    let mut sheet = Sheet::new(input);
+    match got {
+        Ok((rest, value)) => {
+            sheet.number(0u8);
+            sheet.place(rest);
+            value.told(&mut sheet);
+        }
+        Err(refused) => sheet.number(refused.number()),
+    }
+    sheet.numbers
+}
