@@ -1,4 +1,5 @@
-"""What the scripts read of a tree: its crates, their functions with contracts, their definitions, and the must-fail edits."""
+"""What the scripts read of a tree: its crates, their functions with contracts, their definitions,
+and the must-fail edits."""
 
 import os
 import pathlib
@@ -24,9 +25,11 @@ def is_library(root, crate):
 class Function:
     """A function of a crate: where it stands, who may call it, and what it promises."""
 
-    def __init__(self, crate, file, line, span, kind, name, visible, lent, result, requires, ensures):
-        self.crate, self.file, self.line, self.span, self.kind, self.name = crate, file, line, span, kind, name
-        self.visible, self.lent, self.result, self.requires, self.ensures = visible, lent, result, requires, ensures
+    def __init__(self, crate, file, line, span, kind, name, visible, lent, result, said):
+        self.crate, self.file, self.line, self.span = crate, file, line, span
+        self.kind, self.name, self.visible = kind, name, visible
+        self.lent, self.result = lent, result
+        self.requires, self.ensures = said["requires"], said["ensures"]
 
     @property
     def public(self):
@@ -41,7 +44,8 @@ class Function:
     def path(self):
         """The name by which the prover tells of it."""
         module = pathlib.PurePath(self.file).stem
-        return "::".join([self.crate] + ([] if module in ("lib", "main") else [module]) + [self.title])
+        between = [] if module in ("lib", "main") else [module]
+        return "::".join([self.crate, *between, self.title])
 
     @property
     def proof(self):
@@ -62,16 +66,19 @@ def closing(text, at):
     raise ValueError("a bracket is not closed")
 
 
-HEAD = re.compile(r'^[ \t]*(pub(?:\([^)]*\))?[ \t]+)?(?:(?:extern[ \t]+"C"|const)[ \t]+)*fn[ \t]+(\w+)', re.M)
+HEAD = re.compile(
+    r'^[ \t]*(pub(?:\([^)]*\))?[ \t]+)?(?:(?:extern[ \t]+"C"|const)[ \t]+)*fn[ \t]+(\w+)', re.M
+)
 TYPE = re.compile(r"^impl(?:<[^>]*>)?[ \t]+(\w+)", re.M)
 RESULT = re.compile(r"\s*->[^{;]*?(?=\s+(?:requires|ensures)\b|\s*[{;])")
 CLAUSE = re.compile(r"\s*(requires|ensures)\s*\{")
+# comments and bytes in quotes, which may hold brackets of their own
+QUIET = re.compile(r"""//[^\n]*|b"(?:\\.|[^"\\])*"|b'(?:\\.|[^'\\])'""")
 
 
 def functions_of(crate, file, text):
     """The functions of one source file, in its order."""
-    # comments and bytes in quotes may hold brackets of their own: blanks in their place
-    text = re.sub(r"""//[^\n]*|b"(?:\\.|[^"\\])*"|b'(?:\\.|[^'\\])'""", lambda quiet: " " * len(quiet.group()), text)
+    text = QUIET.sub(lambda quiet: " " * len(quiet.group()), text)
     blocks = []
     for impl in TYPE.finditer(text):
         opened = text.index("{", impl.end())
@@ -91,7 +98,8 @@ def functions_of(crate, file, text):
         visible = "".join((head.group(1) or "").split())
         line = text.count("\n", 0, head.start(2)) + 1
         span = (head.end() - len(head.group().lstrip()), closing(text, text.index("{", at)))
-        found.append(Function(crate, file, line, span, kind, head.group(2), visible, lent, result is not None, **said))
+        name, has = head.group(2), result is not None
+        found.append(Function(crate, file, line, span, kind, name, visible, lent, has, said))
     return found
 
 
@@ -105,16 +113,20 @@ def functions(root, crate):
 
 def facts(function):
     """The contract: what stands between ⌜ and ⌝ in each clause, in one line each."""
-    return [" ".join(fact.split()) for clause in function.ensures for fact in re.findall(r"⌜(.*?)⌝", clause, re.S)]
+    said = [fact for clause in function.ensures for fact in re.findall(r"⌜(.*?)⌝", clause, re.S)]
+    return [" ".join(fact.split()) for fact in said]
 
 
 DEFINED = re.compile(
-    r"^(?:(?:abbrev|unfoldable|opaque|pub|private|instance)\s+)*(?:(?:record|data)\s+([^\s:(){}]+)|([^\s:(){}]+)\s+:(?=\s))", re.M
+    r"^(?:(?:abbrev|unfoldable|opaque|pub|private|instance)\s+)*"
+    r"(?:(?:record|data)\s+([^\s:(){}]+)|([^\s:(){}]+)\s+:(?=\s))",
+    re.M,
 )
 
 
 def definitions(root, crate):
-    """The definitions and theorems of a crate, each with its file; the proofs of single functions are not among them."""
+    """The definitions and theorems of a crate, each with its file; the proofs of single functions
+    are not among them."""
     found = {}
     for part in ("specs", "proofs"):
         for file in sorted((root / "crates" / crate / part).glob("*.antt")):
@@ -124,7 +136,8 @@ def definitions(root, crate):
 
 
 class Edit:
-    """A must-fail edit: its first line is `# name [LETTERS], name: sentence`, the letters those of the broken gauges."""
+    """A must-fail edit: its first line is `# name [LETTERS], name: sentence`, the letters those of
+    the broken gauges."""
 
     FIRST = re.compile(r"# ([^:]+(?:::\w+[^:]*)*): (\S.*)")
     NAME = re.compile(rf"(\S+)(?: \[([{GAUGES}]+)\])?")
@@ -157,7 +170,8 @@ class Edit:
         return found
 
     def altered(self, root, functions):
-        """The functions in whose text it changes something: from the first character that differs to the last."""
+        """The functions in whose text it changes something: from the first character that differs
+        to the last."""
         for file, old, new in self.changes:
             path = f"crates/{self.crate}/{file}"
             if file.startswith("src/") and (root / path).is_file():
@@ -165,15 +179,18 @@ class Edit:
                 same = len(os.path.commonprefix([old, new]))
                 kept = len(os.path.commonprefix([old[same:][::-1], new[same:][::-1]]))
                 first, last = at + same, at + len(old) - kept
-                yield from (f for f in functions if f.file == path and at >= 0 and f.span[0] < last and first <= f.span[1])
+                of = [function for function in functions if function.file == path and at >= 0]
+                yield from (f for f in of if f.span[0] < last and first <= f.span[1])
 
 
 def edits(root, crate):
     """The edits of a crate: those of the gate, then the others."""
     folder = root / "crates" / crate / "must-fail"
-    return [Edit(root, crate, file) for where in (folder, folder / "more") for file in sorted(where.glob("*.edit"))]
+    files = [*sorted(folder.glob("*.edit")), *sorted((folder / "more").glob("*.edit"))]
+    return [Edit(root, crate, file) for file in files]
 
 
 def named(name, known):
-    """The functions among `known` that a name of an edit means: a method also by its bare name, where no other function has it."""
+    """The functions among `known` that a name of an edit means: a method also by its bare name,
+    where no other function has it."""
     return [function for function in known if name in (function.title, function.name)]

@@ -1,10 +1,12 @@
-"""The definitions of specs/: what each file says, and which of them the contracts of public functions need."""
+"""The definitions of specs/: what each file says, and which of them the contracts of public
+functions need."""
 
 import re
 
 import source
 
-# Who links C or Rust reads the first besides; demand 3's clause of the readers of hellos; crates whose contracts are theorems.
+# Crates that who links C or Rust reads besides; demand 3's clause of the readers of hellos; crates
+# whose contracts are theorems.
 EXPORTS = ("c_array", "c_tell", "c_fill", "c_hear", "norrabist_c")
 SPLITS = ("BySplit ", "ByVersion ")
 THEOREMS = ("claim_rows", "claim_readers", "claim_wayback", "claim_writers", "claims")
@@ -15,15 +17,18 @@ LENT = re.compile(r"^ghost use (\S+?)\.\{([^}]*)\};$", re.M)
 FILE = re.compile(r"Rattle·(\w+?)(?:·specs)?\.specs(?:\.([A-Z]\w*))?$")
 WORD = re.compile(r"[^\s(){},;.⌜⌝\[\]]+")
 FIELD = re.compile(r"(?<=[\s(])\.\S+")
+SKIPPED = ("use ", "pub mod ", "infix")
 
 
 def words_of(text):
-    """The words of a text that may name a definition: a field that is taken of a record, ` .name`, does not."""
+    """The words of a text that may name a definition: a field that is taken of a record, ` .name`,
+    does not."""
     return WORD.findall(FIELD.sub(" ", text))
 
 
 class File:
-    """A file of definitions: its lines, what its heading says, its definitions by name, and where the words that it takes stand."""
+    """A file of definitions: its lines, what its heading says, its definitions by name, and where
+    the words that it takes stand."""
 
     def __init__(self, root, crate, name):
         self.crate, self.name = crate, name
@@ -36,7 +41,7 @@ class File:
                 heading.append(line.removeprefix("--").strip())
             elif use := TAKEN.match(line):
                 self.take(use.group(2), use.group(3), use.group(1))
-            elif line.strip() and not line.lstrip().startswith("--") and not line.startswith(("use ", "pub mod ", "infix")):
+            elif line.strip() and not (line.lstrip().startswith("--") or line.startswith(SKIPPED)):
                 if not line[0].isspace() and line[0] not in "})":
                     known = NAMED.match(line).group(1)
                 self.defined.setdefault(known, []).append(line)
@@ -47,20 +52,24 @@ class File:
                     self.owner[case.split()[0]] = known
 
     def take(self, path, names, handed):
-        """Where a word stands that it takes: the file, or the folder of a crate whose Lib passes it on."""
+        """Where a word stands that it takes: the file, or the folder of a crate whose Lib passes it
+        on."""
         file = FILE.match(path)
         for name in (name.strip().rpartition(".")[2] for name in names.split(",")):
-            self.taken[name] = f"{file.group(1)}/specs/" + (f"{file.group(2)}.antt" if file.group(2) else "") if file else None
+            where = f"{file.group(2)}.antt" if file and file.group(2) else ""
+            self.taken[name] = f"{file.group(1)}/specs/{where}" if file else None
             if handed:
                 self.handed.add(name)
 
 
 def files(root):
-    """The files of definitions, each after those that it stands on: by the crates' order, and a crate's as its Lib names them."""
+    """The files of definitions, each after those that it stands on: by the crates' order, and a
+    crate's as its Lib names them."""
     found = {}
     for crate in source.crates(root):
         listed = root / "crates" / crate / "specs" / "Lib.antt"
-        for name in re.findall(r"^pub mod (\w+)$", listed.read_text(), re.M) if listed.is_file() else []:
+        text = listed.read_text() if listed.is_file() else ""
+        for name in re.findall(r"^pub mod (\w+)$", text, re.M):
             file = File(root, crate, name)
             found[file.path] = file
     return found
@@ -68,15 +77,20 @@ def files(root):
 
 def passed_on(lib):
     """The words that a Lib passes on."""
-    return [name.strip().rpartition(".")[2] for line in lib.splitlines() if (use := TAKEN.match(line)) for name in use.group(3).split(",")]
+    uses = [use for line in lib.splitlines() if (use := TAKEN.match(line))]
+    return [name.strip().rpartition(".")[2] for use in uses for name in use.group(3).split(",")]
 
 
 def standing(known, file, word):
-    """The file that a file takes a word from: of a crate whose Lib passes it on the one that has it."""
+    """The file that a file takes a word from: of a crate whose Lib passes it on the one that has
+    it."""
     where = file.taken.get(word) or ""
     if not where.endswith("/"):
         return known.get(where)
-    return next((other for other in known.values() if other.path.startswith(where) and word in {*other.defined, *other.owner, *other.handed}), None)
+    for other in known.values():
+        if other.path.startswith(where) and word in {*other.defined, *other.owner, *other.handed}:
+            return other
+    return None
 
 
 def resolve(known, file, word):
@@ -96,8 +110,8 @@ def closure(known, found):
         path, name = left.pop()
         if (path, name) not in reached:
             reached.add((path, name))
-            meant = (resolve(known, known[path], word) for line in known[path].defined[name] for word in words_of(line))
-            left += [one for one in meant if one]
+            said = [word for line in known[path].defined[name] for word in words_of(line)]
+            left += [one for word in said if (one := resolve(known, known[path], word))]
     return reached
 
 
@@ -111,7 +125,8 @@ class Contracts:
 
 
 def needed(root, known, crates, answers=False):
-    """The definitions that the contracts of these crates' public functions need; of those of answers alone without demand 3's clause."""
+    """The definitions that the contracts of these crates' public functions need; with `answers`
+    without demand 3's clause."""
     found = set()
     for crate in crates:
         lent = {}
@@ -122,13 +137,14 @@ def needed(root, known, crates, answers=False):
                 for fact in source.facts(function):
                     if answers and fact.startswith(SPLITS):
                         continue
-                    found |= {one for word in words_of(fact) if (one := resolve(known, lent[function.file], word))}
+                    meant = [resolve(known, lent[function.file], word) for word in words_of(fact)]
+                    found |= {one for one in meant if one}
     return closure(known, found)
 
 
 def groups(root, known):
-    """The definitions in four: what the answers of the Rattle functions need, what only demand 3's clause does, what only the exports
-    do, and theorems."""
+    """The definitions in four: what the answers of the Rattle functions need, what only the exports
+    do, what only demand 3's clause does, and theorems."""
     listed = source.crates(root)
     rattle = [crate for crate in listed if crate not in EXPORTS + THEOREMS]
     answers = needed(root, known, rattle, answers=True)
