@@ -1,6 +1,6 @@
--- The answer of a reader of messages, and the place in the body from which on its reader leaves the
--- bytes over. RULES 5.3: they are dropped. tls-parser's readers of bodies hand them out, so it is
--- told where they begin.
+-- What is said of a message by its kind, each once: where its reader leaves bytes of the body over
+-- (RULES 5.3: they are dropped, and it is told where they begin), its number and type (RULES 5.4),
+-- and whether it is written (RULES 0.5, 7.1); and the answer of a reader of messages.
 use Rattle.refusal.specs.{ℕ, _+_, Option, none, some, eqb, unplaced, Answer, accepted, refused, NotYetImplemented}
 use Rattle.registry.specs.Types.{helloRequestType, clientHelloType, serverHelloType, newSessionTicketType, endOfEarlyDataType, helloRetryRequestType, certificateType, serverKeyExchangeType, certificateRequestType, serverDoneType, certificateVerifyType, clientKeyExchangeType, finishedType, certificateStatusType, nextProtocolType, keyUpdateType}
 use Rattle.registry.specs.Versions.{tls13Draft18}
