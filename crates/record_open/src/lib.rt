@@ -46,7 +46,7 @@ pub enum OpenedAnswer {
 
 // What the refusal of the first message, in a record's content that begins at `at`, makes of the
 // record.
-fn first_refusal(r: Refusal, at: usize) -> Refusal
+pub fn first_refusal(r: Refusal, at: usize) -> Refusal
     ensures { λ x. ⌜ x ≡ firstRefusal at r ⌝ }
 {
     if refusal::refusal_number(r) == 1 {
@@ -56,7 +56,7 @@ fn first_refusal(r: Refusal, at: usize) -> Refusal
 }
 
 // Why a record of a type other than 0x16 is refused.
-fn other_type(record_type: u8) -> Refusal
+pub fn other_type(record_type: u8) -> Refusal
     ensures { λ r. ⌜ r ≡ otherType «record_type» ⌝ }
 {
     match record_type {

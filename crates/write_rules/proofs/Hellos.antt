@@ -1,59 +1,61 @@
--- A hello that may be written: each part is one of its field, and the text is the fields joined.
--- Assumes nothing.
-use Prim.Native.Nat.{ℕ, _+_, _-_, _<_, _≤_}
+-- A value that may be written: its parts lie in the bytes lent with it and each is one of its
+-- field, and its text is that of the parts handed over apart. Assumes nothing.
+use Prim.Native.Nat.{ℕ, _<_}
 use mathlib.Core.Path.{_≡_, refl, ap, sym, _∙_}
 use mathlib.Core.List.{List, [], _∷_, _++_, append-assoc}
 use mathlib.Core.Bool.{Bool, true, false, not, _&&_}
-use native.Mathlib.Omega.{arith}
-use borrow.Author.Tests.{not-true}
-use borrow.Rule.Slice.PartMut.{putMid, midOf}
+use borrow.Author.Tests.{not-true, not-false}
 use lib.ListN.{length}
-use Rattle.refusal.specs.Answers.{accepted, refused}
+use Rattle.refusal.specs.Answers.{Answer, accepted, refused}
 use Rattle.refusal.specs.Refusals.{unplaced}
 use Rattle.refusal.specs.declared.Reason.the-variants.{BadLength}
 use Rattle.refusal.specs.declared.Refusal.{Refusal}
-use Rattle.refusal.proofs.Then.{not-both}
 use Rattle.wire.specs.Parts.{optPartOf}
-use Rattle.wire.specs.Puts.{put, roomAt, room, written}
-use Rattle.wire.specs.declared.view.Part.{Part}
-use Rattle.wire.proofs.Parts.{room-fits}
+use Rattle.wire.specs.Puts.{room, written}
 use Rattle.wire.proofs.Puts.{Came}
-use Rattle.field.specs.Fields.{Field}
-use Rattle.field.specs.Standing.{fieldBytes, Obeys}
+use Rattle.field.specs.Standing.{fieldBytes}
 use Rattle.field.specs.Texts.{allowed}
-use Rattle.field.proofs.Texts.{both-true, obeys}
-use Rattle.grammar.specs.Grammars.{How, asOpt, Row, gather}
-use Rattle.grammar.specs.Splits.{AllObey, join}
+use Rattle.field.proofs.Texts.{both-true}
+use Rattle.grammar.specs.Grammars.{asOpt, Row, gather}
+use Rattle.grammar.specs.Splits.{join}
 use Rattle.grammar.specs.Hellos.{extensions}
-use Rattle.grammar.specs.Forms.{Form, Out, Outs, named, allNamed}
+use Rattle.grammar.specs.Forms.{Form, Outs, named, allNamed}
 use Rattle.write_rules.specs.HelloTexts.{lies, mayStand, mayWrite, helloBytes, helloText}
+use Rattle.write_rules.specs.JoinTexts.{mayJoin, joinBytes, joinText, allLie}
 use Rattle.write_rules.specs.MessageTexts.{headText, messageText}
-use Rattle.write_rules.proofs.Messages.{Message, short-head, message-refused, ensured, body-fits, message-in}
+use Rattle.write_rules.proofs.Joins.{Joined, allMay, joined}
+use Rattle.write_rules.proofs.Messages.{Message, Wrote, short-head, message-refused, ensured}
 
-stands : (f : Field) (m : How) (s : List ℕ) (o : Out m) → mayStand f m s o ≡ true → Obeys f (named m s o)
-stands f m s o e = obeys f (named m s o) (both-true (lies m s o) (allowed f (length (named m s o))) e .1)
+-- two rows of tests asked together
+swap : (a b c d : Bool) → ((a && b) && (c && d)) ≡ ((a && c) && (b && d))
+swap true true c d = refl
+swap true false true d = refl
+swap true false false d = refl
+swap false b c d = refl
 
--- each part may stand in its field, and then a last one
-abbrev allMay : (rs : List Row) → List ℕ → Outs rs → Bool → Bool
-allMay rs s os z = gather (λ (f, m) o rest. mayStand f m s o && rest) z rs os
+both : (rs : List Row) (s : List ℕ) (os : Outs rs) (x y : Bool)
+    → gather (λ (f, m) o rest. mayStand f m s o && rest) (x && y) rs os
+    ≡ (gather (λ (f, m) o rest. lies m s o && rest) x rs os && allMay rs (allNamed rs s os) y)
+both [] s os x y = refl
+both ((f, m) ∷ rs) s (o, os) x y =
+    rw (both rs s os x y)
+    (swap (lies m s o) (allowed f (length (named m s o))) (gather (λ (f, m) o rest. lies m s o && rest) x rs os)
+    (allMay rs (allNamed rs s os) y))
 
-all-stand : (rs : List Row) (s : List ℕ) (os : Outs rs) (z : Bool) → allMay rs s os z ≡ true
-    → AllObey rs (allNamed rs s os) × (z ≡ true)
-all-stand [] s os z e = (tt, e)
-all-stand ((f, m) ∷ rs) s (o, os) z e =
-    let b = both-true (mayStand f m s o) (allMay rs s os z) e in
-    let r = all-stand rs s os z (b .1) in
-    ((stands f m s o (b .0), r .0), r .1)
+module _ {C : Type 0} (k : Form C) (s : List ℕ) (c : C) where
+  may-both : mayWrite k s c ≡ (allLie k s c && mayJoin (k .grammar .rows) (allNamed (k .grammar .rows) s (k .handed c))
+      (optPartOf s (k .block c)))
+  unfolding mayWrite allLie mayJoin
+  may-both =
+      both (k .grammar .rows) s (k .handed c) (lies (asOpt false) s (k .block c))
+      (allowed extensions (length (optPartOf s (k .block c))))
 
-pub record Obeyed {C : Type 0} (k : Form C) (s : List ℕ) (c : C) : Type 0 where
-  pub fields : AllObey (k .grammar .rows) (allNamed (k .grammar .rows) s (k .handed c))
-  pub last : Obeys extensions (optPartOf s (k .block c))
+-- each part that a value names is one of its field
+abbrev pub Obeyed : {C : Type 0} → Form C → List ℕ → C → Type 0
+Obeyed k s c = Joined (k .grammar .rows) (allNamed (k .grammar .rows) s (k .handed c)) (optPartOf s (k .block c))
 
 pub obeyed : {C : Type 0} (k : Form C) (s : List ℕ) (c : C) → mayWrite k s c ≡ true → Obeyed k s c
-unfolding mayWrite
-obeyed k s c e =
-    let b = all-stand (k .grammar .rows) s (k .handed c) (mayStand extensions (asOpt false) s (k .block c)) e in
-    record { fields = b .0; last = stands extensions (asOpt false) s (k .block c) (b .1) }
+obeyed k s c e = joined _ _ _ (both-true (allLie k s c) _ (sym (may-both k s c) ∙ e) .1)
 
 -- the text is the join of the parts, and what stands behind it
 all-joined : (rs : List Row) (s : List ℕ) (os : Outs rs) (z : List ℕ)
@@ -80,14 +82,6 @@ hello-not : {C : Type 0} (k : Form C) (s : List ℕ) (c : C) → mayWrite k s c 
 unfolding helloText
 hello-not k s c e = rw e
 
-text-may : {C : Type 0} (k : Form C) (s : List ℕ) (c : C) {bs : List ℕ} → helloText k s c ≡ accepted bs
-    → mayWrite k s c ≡ true
-text-may k s c e = go (mayWrite k s c) refl
-  where
-    go : (b : Bool) → mayWrite k s c ≡ b → mayWrite k s c ≡ true
-    go true m = m
-    go false m = absurd (not-both e (hello-not k s c m))
-
 -- the message of a hello that may not be written, and that of one that may, its body of n bytes
 abbrev pub HelloMessage : {C : Type 0} → Form C → ℕ → List ℕ → C → ℕ → Type 0
 HelloMessage k msgType s c n = Message (headText msgType) 4 (helloText k s c) (helloBytes k s c) n
@@ -102,23 +96,30 @@ module _ {C : Type 0} (k : Form C) (msgType : ℕ) (s : List ℕ) (c : C) where
       → HelloMessage k msgType s c n
   hello-message n e l h = short-head msgType (hello-may k s c e) l h
 
--- the same once there is room for it
-pub record Ready {C : Type 0} (k : Form C) (msgType : ℕ) (s : List ℕ) (c : C) (d : List ℕ) (n : ℕ)
-    (p : Part) : Type 0 where
-  pub message : HelloMessage k msgType s c n
-  pub place : roomAt d 0 (4 + n) ≡ accepted p
+-- its parts lie in the bytes lent with it, and are handed over apart; or one of them does not
+module _ {C : Type 0} (k : Form C) (s : List ℕ) (c : C) where
+  -- the text of a value is that of the parts that it names, where all of them lie there
+  pub hello-parts : allLie k s c ≡ true → helloText k s c ≡ joinText (k .grammar .rows)
+      (allNamed (k .grammar .rows) s (k .handed c)) (optPartOf s (k .block c))
+  unfolding helloText joinText joinBytes
+  hello-parts l = rw (may-both k s c, l, hello-joined k s c)
 
--- the fields fit behind the head's place, and both are put in
-module _ {C : Type 0} {k : Form C} {msgType : ℕ} {s : List ℕ} {c : C} {d : List ℕ} {n : ℕ} {p : Part}
-    (r : Ready k msgType s c d n p) where
-  pub behind-head : 4 ≤ length d
-  behind-head = omega (arith, room-fits d 0 (4 + n) (r .place) .inside)
+  pub hello-outside : allLie k s c ≡ false → helloText k s c ≡ refused (unplaced BadLength)
+  unfolding helloText
+  hello-outside l = rw (may-both k s c, l)
 
-  pub fields-fit : (mayWrite k s c ≡ true) × (length (helloBytes k s c) ≤ length (midOf 4 (length d - 4) d))
-  fields-fit = (text-may k s c (r .message .is), body-fits d (r .message) (r .place))
+  -- a writer of a value: a part lies outside, or all of them are handed over apart
+  pub outside-refused : (msgType : ℕ) (d : List ℕ) {t : Bool} {r : Refusal} → t ≡ allLie k s c → not t ≡ true
+      → r ≡ unplaced BadLength
+      → (refused r ≡ room (messageText (headText msgType) (helloText k s c)) 0 d)
+      × (d ≡ written (messageText (headText msgType) (helloText k s c)) 0 d)
+  outside-refused msgType d {t} l n q =
+      ensured (message-refused (headText msgType) d (hello-outside (sym l ∙ not-true t n) ∙ ap refused (sym q)))
 
-  pub hello-in : {ys out : List ℕ} → ys ≡ put (midOf 4 (length d - 4) d) 0 (helloBytes k s c)
-      → out ≡ written (headText msgType n) 0 (putMid 4 (length d - 4) d ys)
-      → (accepted (p .next) ≡ room (messageText (headText msgType) (helloText k s c)) 0 d)
+  pub by-parts : (msgType : ℕ) (d : List ℕ) {t : Bool} {a : Answer ℕ} {n : ℕ} {out : List ℕ} → t ≡ allLie k s c
+      → not t ≡ false
+      → Wrote (messageText (headText msgType) (joinText (k .grammar .rows)
+      (allNamed (k .grammar .rows) s (k .handed c)) (optPartOf s (k .block c)))) d a n out
+      → (a ≡ room (messageText (headText msgType) (helloText k s c)) 0 d)
       × (out ≡ written (messageText (headText msgType) (helloText k s c)) 0 d)
-  hello-in {ys} {out} y o = ensured (message-in d (r .message) ys out (r .place) y o)
+  by-parts msgType d {t} l n w = rw (hello-parts (sym l ∙ not-false t n)) (w .0, w .1 .1)

@@ -1,5 +1,6 @@
 pub mod Parts
-pub mod Hellos
-pub mod Fields
 pub mod Messages
+pub mod Fields
+pub mod Joins
+pub mod Hellos
 pub mod Mays

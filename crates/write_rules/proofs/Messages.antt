@@ -24,8 +24,13 @@ use Rattle.wire.proofs.Numbers.{length-bytes}
 use Rattle.wire.proofs.Puts.{Came, text-refused, text-in, text-out, written-in, number-accepted, length-put}
 use Rattle.field.specs.Fields.{sized}
 use Rattle.field.specs.Texts.{fieldText}
+use Rattle.write_rules.specs.JoinTexts.{textLength}
 use Rattle.write_rules.specs.MessageTexts.{headText, messageText}
 use Rattle.write_rules.proofs.Fields.{begin, next, end}
+
+-- what writing a text came to, as a writer that tells the text's length ensures it
+abbrev pub Wrote : Answer (List ℕ) → List ℕ → Answer ℕ → ℕ → List ℕ → Type 0
+Wrote t d a n d′ = (a ≡ room t 0 d) × ((n ≡ textLength t) × (d′ ≡ written t 0 d))
 
 -- what writing came to, as a writer ensures it
 pub ensured : {t : Answer (List ℕ)} {at : ℕ} {d : List ℕ} {a : Answer ℕ} {d′ : List ℕ} → Came t at d a d′
@@ -77,6 +82,13 @@ pub message-refused : (head : ℕ → Answer (List ℕ)) {body : Answer (List �
     → body ≡ refused r → Came (messageText head body) 0 d (refused r) d
 unfolding messageText
 message-refused head d e = text-refused 0 d (rw e)
+
+pub not-wrote : (head : ℕ → Answer (List ℕ)) {body : Answer (List ℕ)} (d : List ℕ) {r : Refusal} → body ≡ refused r
+    → Wrote (messageText head body) d (refused r) 0 d
+unfolding messageText
+not-wrote head d e =
+    let c = message-refused head d e in
+    (sym (c .says), (rw e, sym (c .leaves)))
 
 -- with type and length before it, it is the type and the body behind a length of three bytes
 pub same-text : (msgType : ℕ) (body : Answer (List ℕ))
@@ -172,3 +184,17 @@ module _ {head : ℕ → Answer (List ℕ)} {m : ℕ} {body : Answer (List ℕ)}
       → Came (messageText head body) 0 d (accepted (p .next)) out
   message-by {p = p} ys out e q y o =
       message-in {p = p} ys out q (y ∙ written-in bs 0 (midOf m (length d - m) d) e (omega (arith, body-fits q))) o
+
+  -- the same with the text's length
+  long-whole : textLength (messageText head body) ≡ m + n
+  long-whole = rw whole-is length-whole
+
+  pub no-room : {r : Refusal} {k : ℕ} → k ≡ m + n → roomAt d 0 (m + n) ≡ refused r
+      → Wrote (messageText head body) d (refused r) k d
+  no-room {r} e q =
+      let c = message-out {r = r} q in
+      (sym (c .says), (e ∙ sym long-whole, sym (c .leaves)))
+
+  pub wrote : {a k : ℕ} {out : List ℕ} → k ≡ m + n → Came (messageText head body) 0 d (accepted a) out
+      → Wrote (messageText head body) d (accepted a) k out
+  wrote e c = (sym (c .says), (e ∙ sym long-whole, sym (c .leaves)))

@@ -1,20 +1,24 @@
-// What is written of a value: whether its parts may be written, and a message's head.
+// What every writer shares: what came of a text, whether a part lies in the bytes lent, and a
+// message's head.
 ghost use mathlib.Core.Bool.{false};
 ghost use mathlib.Core.Path.{_≡_};
-ghost use Rattle.field.specs.Fields.{Field, ruleOf};
 ghost use Rattle.grammar.specs.Grammars.{How};
-ghost use Rattle.wire.specs.Numbers.{bytesIn};
 ghost use Rattle.wire.specs.Parts.{liesIn};
 ghost use Rattle.wire.specs.Puts.{room, written, writeSays};
-ghost use Rattle.write_rules.specs.HelloTexts.{mayStand};
+ghost use Rattle.write_rules.specs.HelloTexts.{lies};
 ghost use Rattle.write_rules.specs.MessageTexts.{headText};
-use field::RuleName;
 use refusal::Reason;
 use wire::number::Width;
 use wire::output::WriteAnswer;
 use wire::view::OptView;
 use wire::view::PartAnswer;
 use wire::view::View;
+
+// What writing a text came to, and how many bytes the text has: 0 where none may be written.
+pub struct TextAnswer {
+    pub answer: WriteAnswer,
+    pub len: usize,
+}
 
 // Whether a view lies within the bytes lent with it.
 pub fn lies_in(i: &[u8], v: View) -> bool
@@ -31,31 +35,13 @@ pub fn lies_in(i: &[u8], v: View) -> bool
     true
 }
 
-// Whether a part may be written as a field of `n` bytes.
-pub fn fixed_may(i: &[u8], v: View, n: usize) -> bool
-    ensures { λ r. ⌜ r ≡ mayStand (Field.fixed n) How.asView (now (i .entry)) v ⌝ }
-{
-    if lies_in(i, v) { v.len == n } else { false }
-}
-
-// Whether a part may be written behind its length.
-pub fn part_may(i: &[u8], v: View, w: Width, rule: RuleName) -> bool
-    ensures { λ r. ⌜ r ≡ mayStand (Field.vector (bytesIn w) (ruleOf rule)) How.asView (now (i .entry)) v ⌝ }
-{
-    if lies_in(i, v) {
-        field::may_follow(w, rule, v.len)
-    } else {
-        false
-    }
-}
-
-// The same of a part that may be missing.
-pub fn opt_part_may(i: &[u8], v: OptView, w: Width, rule: RuleName) -> bool
-    ensures { λ r. ⌜ r ≡ mayStand (Field.vector (bytesIn w) (ruleOf rule)) (How.asOpt false) (now (i .entry)) v ⌝ }
+// The same of a view that may be missing, which lies in any bytes.
+pub fn opt_lies_in(i: &[u8], v: OptView) -> bool
+    ensures { λ r. ⌜ r ≡ lies (How.asOpt false) (now (i .entry)) v ⌝ }
 {
     match v {
-        OptView::Absent => field::may_follow(w, rule, 0),
-        OptView::Present(p) => part_may(i, p, w, rule),
+        OptView::Absent => true,
+        OptView::Present(p) => lies_in(i, p),
     }
 }
 
