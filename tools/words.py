@@ -7,7 +7,7 @@ import source
 
 # Crates that who links C or Rust reads besides; demand 3's clause of the readers of hellos; crates
 # whose contracts are theorems.
-EXPORTS = ("c_array", "c_tell", "c_fill", "c_hear", "norrabist_c")
+EXPORTS = ("norrabist_c",)
 SPLITS = ("BySplit ", "ByVersion ")
 THEOREMS = ("claim_rows", "claim_readers", "claim_wayback", "claim_writers", "claims")
 

@@ -73,8 +73,6 @@ use Rattle.write_message.specs.Written.{handshakeText}
 use Rattle.grammar.specs.Splits.{join}
 use Rattle.record.specs.declared.TlsRecordHeader.{TlsRecordHeader}
 use Rattle.write_record.specs.RecordTexts.{recordBytes, recordText}
-use Rattle.c_hear.specs.Heard.{heard}
-use Rattle.c_hear.proofs.Heard.{each-heard}
 use Rattle.claim_writers.specs.Writers.{Case, comesTo, refusing, upTo, whereFits, withinBytes, optWithin, optLen}
 use Rattle.claim_writers.specs.Writers.{randomFits, idFits, ciphersFit, extensionsFit, partFits, clientWrite}
 use Rattle.claim_writers.specs.Writers.{serverWrite, draft18Write, exchangeWrite, finishedWrite, requestWrite}
@@ -303,7 +301,7 @@ sized-case msgType w h s v out =
     message-case msgType (wide w + length (partOf s v)) (4 + (wide w + v .len)) (partFits (most w) s v) out
     (λ e. (
       sized-message s v (bytesIn w) {t = true} (sym (part-may w s v ∙ e)) refl (partOf s v) refl msgType
-          (rw (width-wide w) h) (wide w) (sym (width-wide w)) .message,
+          (rw (width-wide w) h) (wide w) (sym (width-wide w)),
       omega (arith, view-length s v _ e),
     ))
     (λ e. sized-refused s v (bytesIn w) msgType out {t = false} (sym (part-may w s v ∙ e)) refl refl)
@@ -403,13 +401,6 @@ field w k p at out =
     unfit Methods = refl
     unfit Fragment = refl
 
--- hearing: a message, BadLength or NotYetImplemented
-hearing : (m : List ℕ) → OneOf (NotYetImplemented ∷ BadLength ∷ []) (numberIn (heard m))
-hearing m =
-    each-heard (λ a. OneOf (NotYetImplemented ∷ BadLength ∷ []) (numberIn a)) (λ x. inr (inr refl))
-    (inr (inl (ap numberOf (unplaced-reason BadLength))))
-    (inl (ap numberOf (unplaced-reason NotYetImplemented))) m
-
 pub every-writing : (s out : List ℕ) → Writers s out
 every-writing s out = record {
   clientHello = λ c. client-hello s c out;
@@ -424,5 +415,4 @@ every-writing s out = record {
   bytes = λ at. case-yes s at (length s) out refl refl;
   field = λ w k at. field w k s at out;
   head = λ msgType n. head msgType n out;
-  hearing = hearing s;
 }

@@ -14,7 +14,6 @@ use Rattle.write_others.specs.Exchange.{exchangeText}
 use Rattle.write_message.specs.Written.{handshakeText}
 use Rattle.record.specs.{TlsRecordHeader}
 use Rattle.write_record.specs.RecordTexts.{recordText}
-use Rattle.c_hear.specs.{heard}
 
 -- what a write comes to: the table's number, and where it is accepted the place past the text,
 -- which is the text's length at the front
@@ -183,5 +182,3 @@ pub record Writers (s out : List ℕ) : Type 0 where
   pub bytes : (at : ℕ) → Comes (accepted s) at out (upTo (at + length s) out) (NoRoom ∷ [])
   pub field : (w : Width) (k : RuleName) (at : ℕ) → Comes (fieldText (vector (bytesIn w) (ruleOf k)) s) at out (fieldWrite w k s at out) (ruleRefuses k ∷ NoRoom ∷ [])
   pub head : (msgType n : ℕ) → Comes (headText msgType n) 0 out (whereFits (leb n 16777215) 4 out) (BadLength ∷ NoRoom ∷ [])
-  -- numbers that tell of a message to be written: hearing them writes nothing
-  pub hearing : OneOf (NotYetImplemented ∷ BadLength ∷ []) (numberIn (heard s))

@@ -22,8 +22,10 @@ use Rattle.record_walk.specs.Walking.{Walking}
 use Rattle.record.specs.{raw, headerSays, rawSays, encryptedSays}
 use Rattle.record_open.specs.{plaintextSays, openedSays}
 use Rattle.record_joined.specs.Joined.{viewIn, NoRecordMore}
-use Rattle.c_tell.specs.MessageNumbers.{messageNumbers}
-use Rattle.c_hear.specs.{heard, FieldsFit, heardBack}
+use Rattle.norrabist_c.specs.HellosBack.{HellosBack}
+use Rattle.norrabist_c.specs.BodiesBack.{BodiesBack, ListsBack}
+use Rattle.norrabist_c.specs.HeadsBack.{HeadsBack}
+use Rattle.norrabist_c.specs.Slices.{SlicesSame}
 use Rattle.claim_rows.specs.Readings.{rows, ownRows, AllRead}
 use Rattle.claim_readers.specs.Readers.{Readers}
 use Rattle.claim_wayback.specs.WayBack.{EveryText, WritesBack, ReadsAgain, BackByVersion, AgainByVersion, OneText, WayBack}
@@ -105,9 +107,15 @@ pub record Claims : Type 0 where
   pub walks : (content : List ℕ) → Walking content
   pub readers : (l : RefT (List ℕ)) → SameItems l
   pub sameBytes : (s : List ℕ) (outer inner : View) → partOf s (viewIn s outer inner) ≡ partOf (partOf s outer) inner
-  -- what reading finds of what was written, and hearing of what was told
+  -- what reading finds of what was written
   pub wayBack : WayBack
-  pub hearsBack : (m : TlsMessageHandshake) → FieldsFit m → heard (messageNumbers m) ≡ heardBack m
+  -- what C and Rust are told is the whole value, each start a sum of lengths, and the slices that
+  -- they hand over have the message's own text
+  pub hellosTold : OfBytes HellosBack
+  pub bodiesTold : OfBytes BodiesBack
+  pub listsTold : (s : List ℕ) → ListsBack s
+  pub headsTold : OfBytes HeadsBack
+  pub slicesSame : SlicesSame
   -- rules said a second time: the header and the record, types and kinds, which kinds are written,
   -- the rows of RULES 8 and our own
   pub header : (s : List ℕ) → HeaderAndRecord s

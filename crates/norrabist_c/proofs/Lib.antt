@@ -1,1 +1,10 @@
-pub mod Exports
+pub mod HelloLengths
+pub mod ServerVersions
+pub mod HellosBack
+pub mod HeadLengths
+pub mod HeadsBack
+pub mod BodyParts
+pub mod BodiesBack
+pub mod Verdicts
+pub mod WrittenTexts
+pub mod Slices

@@ -1,1 +1,11 @@
-pub mod Told
+pub mod Parts
+pub mod Hellos
+pub mod HellosBack
+pub mod Bodies
+pub mod Lists
+pub mod BodiesBack
+pub mod Heads
+pub mod HeadsBack
+pub mod Readers
+pub mod Writers
+pub mod Slices

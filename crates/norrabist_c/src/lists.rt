@@ -1,44 +1,80 @@
-// Lists and the messages of a record's content, as many as the lent array has room for. Each
-// answers how many numbers it told.
+// The items of lists, one a call.
 ghost use mathlib.Core.Path.{_≡_};
-ghost use lib.ListN.{length};
-ghost use Rattle.c_fill.specs.Batches.{itemBatch, messageBatch, numberBatch};
-ghost use Rattle.wire.specs.Puts.{put};
+ghost use Rattle.field.specs.Fields.{sized};
+ghost use Rattle.list.specs.Items.{itemFrom, numberPlace};
+ghost use Rattle.norrabist_c.specs.Lists.{itemTold, numberTold};
+use wire::number::NumberAnswer;
 use wire::number::Width;
+use wire::view::PartAnswer;
 
-// The ciphers, or the signature pairs, from the place `from` on.
-#[no_mangle]
-pub extern "C" fn norrabist_numbers(list: &[u8], from: usize, out: &mut [u16]) -> usize
-    ensures { λ r. ⌜ r ≡ length (numberBatch (length (now (out .entry))) (now (list .entry)) from) ⌝ }
-    ensures { λ _. ⌜ now (out .exit) ≡ put (now (out .entry)) 0 (numberBatch (length (now (out .entry))) (now (list .entry)) from) ⌝ }
-{
-    c_fill::fill_numbers(list, from, out)
+// What is told of an item behind its length: where it begins in the list, and its length. The next
+// one begins where it ends.
+#[repr(C)]
+pub struct ItemTold {
+    pub start: usize,
+    pub len: u32,
+    pub number: u8,
 }
 
-// The certificates of a chain, the first beginning at byte `from`: start and length of each.
+// The certificate whose length stands at byte `at` of a chain; NoSuch where none fits.
 #[no_mangle]
-pub extern "C" fn norrabist_certificates(list: &[u8], from: usize, out: &mut [usize]) -> usize
-    ensures { λ r. ⌜ r ≡ length (itemBatch (length (now (out .entry))) 3 (now (list .entry)) from) ⌝ }
-    ensures { λ _. ⌜ now (out .exit) ≡ put (now (out .entry)) 0 (itemBatch (length (now (out .entry))) 3 (now (list .entry)) from) ⌝ }
+pub extern "C" fn norrabist_certificate_at(list: &[u8], at: usize) -> ItemTold
+    ensures { λ r. ⌜ r ≡ itemTold (itemFrom (sized 3) (now (list .entry)) at) ⌝ }
 {
-    c_fill::fill_items(list, Width::Three, from, out)
+    match list::items::item_from(list, at, Width::Three) {
+        PartAnswer::Refused(r) => ItemTold {
+            start: 0,
+            len: 0,
+            number: refusal::refusal_number(r),
+        },
+        PartAnswer::Got(p) => ItemTold {
+            start: p.view.start,
+            len: p.view.len as u32,
+            number: 0,
+        },
+    }
 }
 
-// The names of a CertificateRequest, the same way.
+// The name whose length stands at byte `at` of a CertificateRequest's names; NoSuch where none
+// fits.
 #[no_mangle]
-pub extern "C" fn norrabist_names(list: &[u8], from: usize, out: &mut [usize]) -> usize
-    ensures { λ r. ⌜ r ≡ length (itemBatch (length (now (out .entry))) 2 (now (list .entry)) from) ⌝ }
-    ensures { λ _. ⌜ now (out .exit) ≡ put (now (out .entry)) 0 (itemBatch (length (now (out .entry))) 2 (now (list .entry)) from) ⌝ }
+pub extern "C" fn norrabist_name_at(list: &[u8], at: usize) -> ItemTold
+    ensures { λ r. ⌜ r ≡ itemTold (itemFrom (sized 2) (now (list .entry)) at) ⌝ }
 {
-    c_fill::fill_items(list, Width::Two, from, out)
+    match list::items::item_from(list, at, Width::Two) {
+        PartAnswer::Refused(r) => ItemTold {
+            start: 0,
+            len: 0,
+            number: refusal::refusal_number(r),
+        },
+        PartAnswer::Got(p) => ItemTold {
+            start: p.view.start,
+            len: p.view.len as u32,
+            number: 0,
+        },
+    }
 }
 
-// The messages of a record's content, the first beginning at byte `from`: type, and start and
-// length of the body, of each.
+// What is told of an item that is a number of two bytes.
+#[repr(C)]
+pub struct NumberTold {
+    pub value: u16,
+    pub number: u8,
+}
+
+// The cipher, or the signature pair, at a place of its list, counted from 0; NoSuch past the last.
 #[no_mangle]
-pub extern "C" fn norrabist_messages(content: &[u8], from: usize, out: &mut [usize]) -> usize
-    ensures { λ r. ⌜ r ≡ length (messageBatch (length (now (out .entry))) (now (content .entry)) from) ⌝ }
-    ensures { λ _. ⌜ now (out .exit) ≡ put (now (out .entry)) 0 (messageBatch (length (now (out .entry))) (now (content .entry)) from) ⌝ }
+pub extern "C" fn norrabist_number_at(list: &[u8], place: usize) -> NumberTold
+    ensures { λ r. ⌜ r ≡ numberTold (numberPlace place 2 (now (list .entry))) ⌝ }
 {
-    c_fill::fill_messages(content, from, out)
+    match list::numbers::number_at(list, Width::Two, place) {
+        NumberAnswer::Refused(r) => NumberTold {
+            value: 0,
+            number: refusal::refusal_number(r),
+        },
+        NumberAnswer::Got(n) => NumberTold {
+            value: n.value as u16,
+            number: 0,
+        },
+    }
 }

@@ -1,83 +1,100 @@
-// Messages: at the front of bytes, the next of a record's content, and a body of a given type.
-ghost use mathlib.Core.List.{_∷_};
+// Messages: their heads, and how many there are.
 ghost use mathlib.Core.Path.{_≡_};
-ghost use Rattle.envelope.specs.Opening.{metAt, opened};
-ghost use Rattle.list.specs.Items.{orNoSuch};
-ghost use Rattle.norrabist_c.specs.Told.{answered, metNumbers};
-ghost use Rattle.refusal.specs.Answers.{Answer, giving};
-ghost use Rattle.c_tell.specs.MessageNumbers.{messageNumbers};
-ghost use Rattle.wire.specs.Puts.{written};
+ghost use Rattle.envelope.specs.Opening.{headSays};
+ghost use Rattle.norrabist_c.specs.Heads.{headTold, isListed, listedHead, tallyTold};
+ghost use Rattle.record_walk.specs.Walks.{messagesFrom};
 use envelope::HeadAnswer;
-use message::handshake::MessageAnswer;
-use message::handshake::TlsMessageHandshake;
-use record_walk::TlsRecordWalk;
-use wire::view::View;
+use refusal::Reason;
+use registry::handshake;
 
-// The message behind its three numbers: nothing is put in unless all are.
-fn tell_met(body: View, next: usize, m: TlsMessageHandshake, out: &mut [usize]) -> u8
-    ensures { λ r. ⌜ r ≡ answered (Answer.accepted (body .start ∷ body .len ∷ next ∷ messageNumbers m)) (now (out .entry)) ⌝ }
-    ensures { λ _. ⌜ now (out .exit) ≡ written (Answer.accepted (body .start ∷ body .len ∷ next ∷ messageNumbers m)) 0 (now (out .entry)) ⌝ }
+// Whether a body of this type is opened.
+fn is_listed(msg_type: u8) -> bool
+    ensures { λ r. ⌜ r ≡ isListed «msg_type» ⌝ }
 {
-    let refused = c_tell::tell_message(m, 3, out);
-    if refused != 0 {
-        return refused;
+    match msg_type {
+        handshake::HELLO_REQUEST
+        | handshake::CLIENT_HELLO
+        | handshake::SERVER_HELLO
+        | handshake::NEW_SESSION_TICKET
+        | handshake::END_OF_EARLY_DATA
+        | handshake::HELLO_RETRY_REQUEST
+        | handshake::CERTIFICATE
+        | handshake::SERVER_KEY_EXCHANGE
+        | handshake::CERTIFICATE_REQUEST
+        | handshake::SERVER_DONE
+        | handshake::CERTIFICATE_VERIFY
+        | handshake::CLIENT_KEY_EXCHANGE
+        | handshake::FINISHED
+        | handshake::CERTIFICATE_STATUS
+        | handshake::KEY_UPDATE
+        | handshake::NEXT_PROTOCOL => true,
+        _ => false,
     }
-    let numbers = [body.start, body.len, next];
-    c_array::gen_numbers(out, 0, &numbers)
 }
 
-// Where the body lies, where the next message begins, and the message, its parts within the body.
-#[no_mangle]
-pub extern "C" fn norrabist_parse_tls_message_handshake(i: &[u8], out: &mut [usize]) -> u8
-    ensures { λ r. ⌜ r ≡ answered (giving metNumbers (metAt (now (i .entry)) 0)) (now (out .entry)) ⌝ }
-    ensures { λ _. ⌜ now (out .exit) ≡ written (giving metNumbers (metAt (now (i .entry)) 0)) 0 (now (out .entry)) ⌝ }
+// The head of the message that begins at `at`, where its type is listed: else Switch.
+pub fn listed_head(s: &[u8], at: usize) -> HeadAnswer
+    ensures { λ r. ⌜ headSays r ≡ listedHead (now (s .entry)) at ⌝ }
 {
-    let head = match envelope::parse_tls_message_head(i, 0) {
-        HeadAnswer::Refused(r) => {
-            return refusal::refusal_number(r);
+    match envelope::parse_tls_message_head(s, at) {
+        HeadAnswer::Refused(r) => HeadAnswer::Refused(r),
+        HeadAnswer::Got(h) => {
+            if is_listed(h.msg_type) {
+                HeadAnswer::Got(h)
+            } else {
+                HeadAnswer::Refused(refusal::refuse(Reason::Switch, at, 0))
+            }
         }
-        HeadAnswer::Got(h) => h,
-    };
-    let body = head.body;
-    match envelope::parse_tls_handshake_body(head.msg_type, wire::view::part_of(i, body)) {
-        MessageAnswer::Refused(r) => refusal::refusal_number(refusal::inside(r, body.start)),
-        MessageAnswer::Got(m) => tell_met(body, head.next, m, out),
     }
 }
 
-// The same of the message that begins at `at` in a record's content; NoSuch past the last.
+// What is told of a message's head: where the next message begins, the length of the body, which
+// ends there, and the type.
+#[repr(C)]
+pub struct MessageHeadTold {
+    pub next: usize,
+    pub body: u32,
+    pub msg_type: u8,
+    pub number: u8,
+}
+
+// Reads the head of the message that begins at `at`: Incomplete where the message is not all
+// there, then Switch where its type is not listed. The body's refusals are those of its reader.
 #[no_mangle]
-pub extern "C" fn norrabist_record_walk_next(s: &[u8], at: usize, out: &mut [usize]) -> u8
-    ensures { λ r. ⌜ r ≡ answered (giving metNumbers (orNoSuch (metAt (now (s .entry)) at))) (now (out .entry)) ⌝ }
-    ensures { λ _. ⌜ now (out .exit) ≡ written (giving metNumbers (orNoSuch (metAt (now (s .entry)) at))) 0 (now (out .entry)) ⌝ }
+pub extern "C" fn norrabist_parse_tls_message_head(s: &[u8], at: usize) -> MessageHeadTold
+    ensures { λ r. ⌜ r ≡ headTold (listedHead (now (s .entry)) at) ⌝ }
 {
-    let walk = TlsRecordWalk {
-        body: View { start: 0, len: 0 },
-        next: at,
-    };
-    let walked = walk.next(s);
-    let moved = walked.walk;
-    let body = moved.body;
-    let answer = walked.message;
-    match answer {
-        MessageAnswer::Refused(r) => refusal::refusal_number(r),
-        MessageAnswer::Got(m) => tell_met(body, moved.next, m, out),
+    match listed_head(s, at) {
+        HeadAnswer::Refused(r) => MessageHeadTold {
+            next: 0,
+            body: 0,
+            msg_type: 0,
+            number: refusal::refusal_number(r),
+        },
+        HeadAnswer::Got(h) => MessageHeadTold {
+            next: h.next,
+            body: h.body.len as u32,
+            msg_type: h.msg_type,
+            number: 0,
+        },
     }
 }
 
-// The body of a message of that type, `len` its length for the kinds that take one.
+// What is told of messages: how many there are, and where the last one ends.
+#[repr(C)]
+pub struct TallyTold {
+    pub count: usize,
+    pub end: usize,
+}
+
+// Counts the messages of a record's content from byte `from` on, up to the first that is refused.
 #[no_mangle]
-pub extern "C" fn norrabist_parse_tls_handshake_msg(
-    msg_type: u8,
-    i: &[u8],
-    len: usize,
-    out: &mut [usize],
-) -> u8
-    ensures { λ r. ⌜ r ≡ answered (giving messageNumbers (opened «msg_type» len (now (i .entry)))) (now (out .entry)) ⌝ }
-    ensures { λ _. ⌜ now (out .exit) ≡ written (giving messageNumbers (opened «msg_type» len (now (i .entry)))) 0 (now (out .entry)) ⌝ }
+pub extern "C" fn norrabist_count_messages(s: &[u8], from: usize) -> TallyTold
+    ensures { λ r. ⌜ r ≡ tallyTold (messagesFrom (now (s .entry)) from) from ⌝ }
 {
-    match envelope::parse_tls_handshake_msg(msg_type, i, len) {
-        MessageAnswer::Refused(r) => refusal::refusal_number(r),
-        MessageAnswer::Got(m) => c_tell::tell_message(m, 0, out),
+    let t = record_walk::count_messages(s, from);
+    TallyTold {
+        count: t.count,
+        end: t.end,
     }
 }

@@ -1,149 +1,115 @@
-// Records, told by their fields in order.
+// Records: their headers, and the head of a handshake record's first message.
 ghost use mathlib.Core.Path.{_≡_};
 ghost use Rattle.grammar.specs.Forms.{reading};
-ghost use Rattle.norrabist_c.specs.Told.{answered, headerNumbers, openedNumbers, plaintextNumbers, rawNumbers};
-ghost use Rattle.record_open.specs.Plaintext.{openedFirst, plaintext};
-ghost use Rattle.refusal.specs.Answers.{Answer, giving};
+ghost use Rattle.norrabist_c.specs.Heads.{headerTold, plaintextTold, plainHead, rawTold};
 ghost use Rattle.record.specs.Records.{header, raw};
-ghost use Rattle.wire.specs.Puts.{written};
-use record::EncryptedAnswer;
+ghost use Rattle.refusal.specs.Answers.{refused};
+use envelope::HeadAnswer;
 use record::RawRecordAnswer;
 use record::RecordHeaderAnswer;
-use record_open::OpenedAnswer;
-use record_open::PlaintextAnswer;
-use record_open::TlsPlaintextOpened;
+use refusal::Refusal;
 
-// Type, version, length; what follows begins at byte 5.
+// What is told of a record's header: version, length of the content, which begins at byte 5, and
+// type.
+#[repr(C)]
+pub struct RecordHeadTold {
+    pub version: u16,
+    pub len: u16,
+    pub record_type: u8,
+    pub number: u8,
+}
+
+// Reads the header alone.
 #[no_mangle]
-pub extern "C" fn norrabist_parse_tls_record_header(i: &[u8], out: &mut [usize]) -> u8
-    ensures { λ r. ⌜ r ≡ answered (giving headerNumbers (header (now (i .entry)))) (now (out .entry)) ⌝ }
-    ensures { λ _. ⌜ now (out .exit) ≡ written (giving headerNumbers (header (now (i .entry)))) 0 (now (out .entry)) ⌝ }
+pub extern "C" fn norrabist_parse_tls_record_header(i: &[u8]) -> RecordHeadTold
+    ensures { λ r. ⌜ r ≡ headerTold (header (now (i .entry))) ⌝ }
 {
     match record::parse_tls_record_header(i) {
-        RecordHeaderAnswer::Refused(r) => refusal::refusal_number(r),
-        RecordHeaderAnswer::Got(h) => {
-            let header_numbers = [h.record_type as usize, h.version as usize, h.len as usize];
-            c_array::gen_numbers(out, 0, &header_numbers)
-        }
+        RecordHeaderAnswer::Refused(r) => RecordHeadTold {
+            version: 0,
+            len: 0,
+            record_type: 0,
+            number: refusal::refusal_number(r),
+        },
+        RecordHeaderAnswer::Got(h) => RecordHeadTold {
+            version: h.version,
+            len: h.len,
+            record_type: h.record_type,
+            number: 0,
+        },
     }
 }
 
-// Type, version, length, the content, and where the next record begins.
+// Reads a record of any type, encrypted or not, whose content is all there.
 #[no_mangle]
-pub extern "C" fn norrabist_parse_tls_raw_record(i: &[u8], out: &mut [usize]) -> u8
-    ensures { λ r. ⌜ r ≡ answered (giving rawNumbers (reading raw (now (i .entry)))) (now (out .entry)) ⌝ }
-    ensures { λ _. ⌜ now (out .exit) ≡ written (giving rawNumbers (reading raw (now (i .entry)))) 0 (now (out .entry)) ⌝ }
+pub extern "C" fn norrabist_parse_tls_raw_record(i: &[u8]) -> RecordHeadTold
+    ensures { λ r. ⌜ r ≡ rawTold (reading raw (now (i .entry))) ⌝ }
 {
     match record::parse_tls_raw_record(i) {
-        RawRecordAnswer::Refused(r) => refusal::refusal_number(r),
-        RawRecordAnswer::Got(x) => {
-            let hdr = x.hdr;
-            let data = x.data;
-            let raw_numbers = [
-                hdr.record_type as usize,
-                hdr.version as usize,
-                hdr.len as usize,
-                data.start,
-                data.len,
-                x.next,
-            ];
-            c_array::gen_numbers(out, 0, &raw_numbers)
-        }
+        RawRecordAnswer::Refused(r) => RecordHeadTold {
+            version: 0,
+            len: 0,
+            record_type: 0,
+            number: refusal::refusal_number(r),
+        },
+        RawRecordAnswer::Got(x) => RecordHeadTold {
+            version: x.hdr.version,
+            len: x.hdr.len,
+            record_type: x.hdr.record_type,
+            number: 0,
+        },
     }
 }
 
-// The same, of content that is not to be opened.
+// What is told of a handshake record and its first message's head: version, length of the content,
+// which begins at byte 5, length and type of the message, whose body begins at byte 9.
+#[repr(C)]
+pub struct PlaintextHeadTold {
+    pub version: u16,
+    pub len: u16,
+    pub body: u16,
+    pub msg_type: u8,
+    pub number: u8,
+}
+
+fn plaintext_refused(r: Refusal) -> PlaintextHeadTold
+    ensures { λ x. ⌜ x ≡ plaintextTold (refused r) ⌝ }
+{
+    PlaintextHeadTold {
+        version: 0,
+        len: 0,
+        body: 0,
+        msg_type: 0,
+        number: refusal::refusal_number(r),
+    }
+}
+
+// Reads a handshake record up to its first message's body: Incomplete, TooLarge, then by the type
+// Elsewhere and Switch, then the head's refusals, Complete for Incomplete. The body's refusal is
+// told by `norrabist_refusal`.
 #[no_mangle]
-pub extern "C" fn norrabist_parse_tls_encrypted(i: &[u8], out: &mut [usize]) -> u8
-    ensures { λ r. ⌜ r ≡ answered (giving rawNumbers (reading raw (now (i .entry)))) (now (out .entry)) ⌝ }
-    ensures { λ _. ⌜ now (out .exit) ≡ written (giving rawNumbers (reading raw (now (i .entry)))) 0 (now (out .entry)) ⌝ }
+pub extern "C" fn norrabist_parse_tls_plaintext(i: &[u8]) -> PlaintextHeadTold
+    ensures { λ r. ⌜ r ≡ plaintextTold (plainHead (now (i .entry))) ⌝ }
 {
-    match record::parse_tls_encrypted(i) {
-        EncryptedAnswer::Refused(r) => refusal::refusal_number(r),
-        EncryptedAnswer::Got(x) => {
-            let hdr = x.hdr;
-            let msg = x.msg;
-            let blob = msg.blob;
-            let encrypted_numbers = [
-                hdr.record_type as usize,
-                hdr.version as usize,
-                hdr.len as usize,
-                blob.start,
-                blob.len,
-                x.next,
-            ];
-            c_array::gen_numbers(out, 0, &encrypted_numbers)
+    let outer = match record::parse_tls_raw_record(i) {
+        RawRecordAnswer::Refused(r) => {
+            return plaintext_refused(r);
         }
-    }
-}
-
-// Type, version, length, the content, how many messages it has, how many bytes at its end hold
-// none, and where the next record begins.
-#[no_mangle]
-pub extern "C" fn norrabist_parse_tls_plaintext(i: &[u8], out: &mut [usize]) -> u8
-    ensures { λ r. ⌜ r ≡ answered (giving plaintextNumbers (plaintext (now (i .entry)))) (now (out .entry)) ⌝ }
-    ensures { λ _. ⌜ now (out .exit) ≡ written (giving plaintextNumbers (plaintext (now (i .entry)))) 0 (now (out .entry)) ⌝ }
-{
-    match record_open::parse_tls_plaintext(i) {
-        PlaintextAnswer::Refused(r) => refusal::refusal_number(r),
-        PlaintextAnswer::Got(x) => {
-            let hdr = x.hdr;
-            let msg = x.msg;
-            let plaintext_numbers = [
-                hdr.record_type as usize,
-                hdr.version as usize,
-                hdr.len as usize,
-                msg.start,
-                msg.len,
-                x.count,
-                x.dropped,
-                x.next,
-            ];
-            c_array::gen_numbers(out, 0, &plaintext_numbers)
-        }
-    }
-}
-
-// The message behind the eleven numbers of record and head: nothing is put in unless all are.
-fn tell_opened(x: TlsPlaintextOpened, out: &mut [usize]) -> u8
-    ensures { λ r. ⌜ r ≡ answered (Answer.accepted (openedNumbers x)) (now (out .entry)) ⌝ }
-    ensures { λ _. ⌜ now (out .exit) ≡ written (Answer.accepted (openedNumbers x)) 0 (now (out .entry)) ⌝ }
-{
-    let message = x.message;
-    let refused = c_tell::tell_message(message, 11, out);
-    if refused != 0 {
-        return refused;
-    }
-    let outer = x.record;
+        RawRecordAnswer::Got(x) => x,
+    };
     let hdr = outer.hdr;
-    let msg = outer.msg;
-    let head = x.head;
-    let body = head.body;
-    let opened_numbers = [
-        hdr.record_type as usize,
-        hdr.version as usize,
-        hdr.len as usize,
-        msg.start,
-        msg.len,
-        outer.count,
-        outer.dropped,
-        outer.next,
-        body.start,
-        body.len,
-        head.next,
-    ];
-    c_array::gen_numbers(out, 0, &opened_numbers)
-}
-
-// The same as of a plaintext record, then of its first message where the body lies, where the next
-// one begins, and the message, its parts within the body.
-#[no_mangle]
-pub extern "C" fn norrabist_open_tls_plaintext(i: &[u8], out: &mut [usize]) -> u8
-    ensures { λ r. ⌜ r ≡ answered (giving openedNumbers (openedFirst (now (i .entry)))) (now (out .entry)) ⌝ }
-    ensures { λ _. ⌜ now (out .exit) ≡ written (giving openedNumbers (openedFirst (now (i .entry)))) 0 (now (out .entry)) ⌝ }
-{
-    match record_open::open_tls_plaintext(i) {
-        OpenedAnswer::Refused(r) => refusal::refusal_number(r),
-        OpenedAnswer::Got(x) => tell_opened(x, out),
+    if hdr.record_type != registry::record::HANDSHAKE {
+        return plaintext_refused(record_open::other_type(hdr.record_type));
+    }
+    let data = outer.data;
+    match crate::messages::listed_head(wire::view::part_of(i, data), 0) {
+        HeadAnswer::Refused(r) => plaintext_refused(record_open::first_refusal(r, data.start)),
+        HeadAnswer::Got(h) => PlaintextHeadTold {
+            version: hdr.version,
+            len: hdr.len,
+            body: h.body.len as u16,
+            msg_type: h.msg_type,
+            number: 0,
+        },
     }
 }

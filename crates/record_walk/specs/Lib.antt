@@ -1,4 +1,4 @@
 pub mod Walks
 pub mod Walking
-pub use Walks.{messagesFrom, messages, dropped, metHead, nextMessage}
+pub use Walks.{messages, dropped, metHead, nextMessage}
 pub use declared.TlsRecordWalk.{TlsRecordWalk}

@@ -5,7 +5,7 @@
 pub use Prim.Native.Nat.{ℕ, _+_, _-_, zero, suc, _*_, _/_, _%_, _^_, _<_, _≤_}
 pub use mathlib.Core.Path.{_≡_}
 pub use mathlib.Core.Option.{Option, none, some}
-pub use mathlib.Core.List.{List, [], _∷_, _++_, map, foldl, foldr, flatMap}
+pub use mathlib.Core.List.{List, [], _∷_, _++_, map, foldl, foldr}
 pub use mathlib.Core.Bool.{Bool, true, false, _||_, _&&_}
 pub use lib.ListN.{length, take, drop, getD, replicate}
 pub use lib.Dec.{leb, eqb, ltb}

@@ -21,7 +21,10 @@ use Rattle.record_walk.proofs.Walking.{every-walk}
 use Rattle.record.proofs.Whole as records
 use Rattle.record_open.proofs.Answers.{one-plaintext, one-opened}
 use Rattle.record_joined.proofs.Joined.{no-record-more, same-bytes}
-use Rattle.c_hear.proofs.HeardBack.{heard-again}
+use Rattle.norrabist_c.proofs.HellosBack.{hellos-back}
+use Rattle.norrabist_c.proofs.BodiesBack.{bodies-back, lists-back}
+use Rattle.norrabist_c.proofs.HeadsBack.{heads-back}
+use Rattle.norrabist_c.proofs.Slices.{slices-same}
 use Rattle.claim_wayback.proofs.Hellos.{every-text}
 use Rattle.claim_wayback.proofs.Demand3 as back
 use Rattle.claim_wayback.proofs.WayBack.{way-back}
@@ -90,7 +93,11 @@ returns c = record {
   readers = every-reader;
   sameBytes = same-bytes;
   wayBack = way-back;
-  hearsBack = heard-again;
+  hellosTold = hellos-back;
+  bodiesTold = bodies-back;
+  listsTold = lists-back;
+  headsTold = heads-back;
+  slicesSame = slices-same;
   header = header-and-record;
   kinds = tells-its-type;
   written = these-written;

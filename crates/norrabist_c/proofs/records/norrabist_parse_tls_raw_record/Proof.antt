@@ -1,8 +1,6 @@
--- `norrabist_c::norrabist_parse_tls_raw_record` meets its contract: the refusal of the reader, or
--- the numbers of what it read. Assumes nothing.
+-- `norrabist_c::records::norrabist_parse_tls_raw_record` meets its contract. Assumes nothing.
 use Rattle.refusal.proofs.Told.{case}
 use Rattle.record.specs.Records.{rawSays}
-use Rattle.norrabist_c.proofs.Exports.{none-told, all-told}
 use borrow.Author.Needs.{needs}
 use Rattle.norrabist_c.proofs.records.norrabist_parse_tls_raw_record.Statement.{statement}
 use Rattle.norrabist_c.proofs.records.norrabist_parse_tls_raw_record.Tie as tie
@@ -19,34 +17,15 @@ refusal-number-requires c κs = search needs
 enum-known-x : tie.Need-enum-known-x
 enum-known-x c = search needs
 
-cast-t10 : tie.Need-cast-t10
-cast-t10 c = search needs
-
-cast-t11 : tie.Need-cast-t11
-cast-t11 c = search needs
-
-cast-t12 : tie.Need-cast-t12
-cast-t12 c = search needs
-
-slice-aggregate-gen-numbers : tie.Need-slice-aggregate-gen-numbers
-slice-aggregate-gen-numbers c = search needs
-
-gen-numbers-requires : tie.Need-gen-numbers-requires
-gen-numbers-requires c κs = search needs
-
 returns : tie.Need-returns
-returns c =
-    none-told _ _ (case rawSays (c .before .before .before .before .parse-tls-raw-record .ensures)
-    (c .before .before .r .given .1)) (c .refusal-number .ensures)
-
-same-length : tie.Need-same-length
-same-length c = search needs
+returns c = rw (
+  case rawSays (c .before .before .before .before .parse-tls-raw-record .ensures)
+      (c .before .before .r .given .1),
+  c .refusal-number .ensures,
+)
 
 returns-2 : tie.Need-returns-2
-returns-2 c =
-    let early = c .before .before .before .before .before .before .before .before .before .before .before in
-    all-told _ _ (case rawSays (early .before .before .parse-tls-raw-record .ensures) (early .x .given .1))
-    (c .before .before .gen-numbers .ensures)
+returns-2 c = rw (case rawSays (c .before .before .before .parse-tls-raw-record .ensures) (c .before .x .given .1))
 
 pub norrabist-parse-tls-raw-record-spec : {M : Type 1} → statement M
 norrabist-parse-tls-raw-record-spec =
@@ -56,11 +35,5 @@ norrabist-parse-tls-raw-record-spec =
     enum-known-r
     refusal-number-requires
     enum-known-x
-    cast-t10
-    cast-t11
-    cast-t12
-    slice-aggregate-gen-numbers
-    gen-numbers-requires
     returns
-    same-length
     returns-2)

@@ -1,2 +1,0 @@
-pub mod Batches
-pub mod Numbers

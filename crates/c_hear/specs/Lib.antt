@@ -1,4 +1,0 @@
-pub mod Heard
-pub mod HeardBack
-pub use Heard.{heard}
-pub use HeardBack.{FieldsFit, heardBack}

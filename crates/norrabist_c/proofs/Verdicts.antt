@@ -1,0 +1,72 @@
+-- Why a reader refuses, by its number; and that a message's head is refused as the message is.
+-- Assumes nothing.
+use Prim.Native.Nat.{ℕ, _<_, _≤_}
+use mathlib.Core.Path.{_≡_, refl, _∙_}
+use mathlib.Core.Bool.{false}
+use mathlib.Core.List.{List}
+use native.Mathlib.Omega.{arith}
+use borrow.Author.Tests.{ne-eqb}
+use lib.Dec.{eqb}
+use Rattle.refusal.specs.Answers.{Answer, accepted, refused, giving}
+use Rattle.refusal.specs.Refusals.{unplaced}
+use Rattle.refusal.specs.declared.Reason.the-variants.{Switch}
+use Rattle.list.specs.Items.{orNoSuch}
+use Rattle.envelope.specs.Opening.{metAt, opened}
+use Rattle.record_walk.specs.Walks.{metHead}
+use Rattle.norrabist_c.specs.Readers.{answerOf, verdict}
+
+-- what an answer is made into changes no verdict
+still : {A B : Type 0} (f : A → B) (a : Answer A) → verdict (giving f a) ≡ verdict a
+still f (accepted x) = refl
+still f (refused r) = refl
+
+still-found : {A B : Type 0} (f : A → B) (a : Answer A) → verdict (orNoSuch (giving f a)) ≡ verdict (orNoSuch a)
+still-found f (accepted x) = refl
+still-found f (refused r) = refl
+
+pub met : (s : List ℕ) (at : ℕ) → verdict (metHead s at) ≡ verdict (metAt s at)
+unfolding metHead
+met s at = still _ (metAt s at)
+
+pub walked : (s : List ℕ) (at : ℕ) → verdict (orNoSuch (metHead s at)) ≡ verdict (orNoSuch (metAt s at))
+unfolding metHead
+walked s at = still-found _ (metAt s at)
+
+-- the number of a type is that of its reader
+pub by-type : (k n : ℕ) (s : List ℕ) → k < 256 → answerOf k n s ≡ verdict (opened k n s)
+unfolding answerOf
+by-type k n s h =
+    rw (
+      ne-eqb k 0x0100 (λ e. omega (arith, e)),
+      ne-eqb k 0x0101 (λ e. omega (arith, e)),
+      ne-eqb k 0x0102 (λ e. omega (arith, e)),
+      ne-eqb k 0x0103 (λ e. omega (arith, e)),
+      ne-eqb k 0x0104 (λ e. omega (arith, e)),
+      ne-eqb k 0x0105 (λ e. omega (arith, e)),
+    )
+
+-- no type is above 0xff
+past : (k t : ℕ) → t < 256 → 256 ≤ k → eqb k t ≡ false
+past k t l h = ne-eqb k t (λ e. omega (arith, e))
+
+pub unlisted : (k n : ℕ) (s : List ℕ) → 256 ≤ k → opened k n s ≡ refused (unplaced Switch)
+unfolding opened
+unlisted k n s h =
+    rw (
+      past k 0x00 (omega arith) h,
+      past k 0x01 (omega arith) h,
+      past k 0x02 (omega arith) h,
+      past k 0x04 (omega arith) h,
+      past k 0x05 (omega arith) h,
+      past k 0x06 (omega arith) h,
+      past k 0x0b (omega arith) h,
+      past k 0x0c (omega arith) h,
+      past k 0x0d (omega arith) h,
+      past k 0x0e (omega arith) h,
+      past k 0x0f (omega arith) h,
+      past k 0x10 (omega arith) h,
+      past k 0x14 (omega arith) h,
+      past k 0x16 (omega arith) h,
+      past k 0x18 (omega arith) h,
+      past k 0x43 (omega arith) h,
+    )

@@ -1,0 +1,105 @@
+-- `norrabist_c::refusals::norrabist_refusal` meets its contract: the number decides. Assumes
+-- nothing.
+use borrow.Author.Tests.{ne-eqb}
+use Rattle.norrabist_c.specs.Readers.{answerOf}
+use Rattle.norrabist_c.proofs.Verdicts.{by-type, unlisted}
+use borrow.Author.Needs.{needs}
+use Rattle.norrabist_c.proofs.refusals.norrabist_refusal.Statement.{statement}
+use Rattle.norrabist_c.proofs.refusals.norrabist_refusal.Tie as tie
+
+of-header-requires : tie.Need-of-header-requires
+of-header-requires c κs = search needs
+
+of-raw-requires : tie.Need-of-raw-requires
+of-raw-requires c κs = search needs
+
+of-plaintext-requires : tie.Need-of-plaintext-requires
+of-plaintext-requires c κs = search needs
+
+of-message-requires : tie.Need-of-message-requires
+of-message-requires c κs = search needs
+
+of-walk-requires : tie.Need-of-walk-requires
+of-walk-requires c κs = search needs
+
+of-server-requires : tie.Need-of-server-requires
+of-server-requires c κs = search needs
+
+cast-of-body : tie.Need-cast-of-body
+cast-of-body c = search needs
+
+of-body-requires : tie.Need-of-body-requires
+of-body-requires c κs = search needs
+
+unplaced-requires : tie.Need-unplaced-requires
+unplaced-requires c κs = search needs
+
+carried-requires : tie.Need-carried-requires
+carried-requires c κs = search needs
+
+returns : tie.Need-returns
+unfolding answerOf
+returns c = rw (c .before .match .keys1) (c .of-header .ensures)
+
+returns-2 : tie.Need-returns-2
+unfolding answerOf
+returns-2 c = rw (c .before .match .keys2) (c .of-raw .ensures)
+
+returns-3 : tie.Need-returns-3
+unfolding answerOf
+returns-3 c = rw (c .before .match .keys3) (c .of-plaintext .ensures)
+
+returns-4 : tie.Need-returns-4
+unfolding answerOf
+returns-4 c = rw (c .before .match .keys4) (c .of-message .ensures)
+
+returns-5 : tie.Need-returns-5
+unfolding answerOf
+returns-5 c = rw (c .before .match .keys5) (c .of-walk .ensures)
+
+returns-6 : tie.Need-returns-6
+unfolding answerOf
+returns-6 c = rw (c .before .match .keys6) (c .of-server .ensures)
+
+returns-7 : tie.Need-returns-7
+returns-7 c = rw (by-type _ _ _ (c .before .if1 .taken)) (c .of-body .ensures)
+
+returns-8 : tie.Need-returns-8
+unfolding answerOf
+returns-8 c =
+    let g = c .before .before .before in
+    let k = g .before .before .args .reader in
+    let m = g .match .rest in
+    rw (
+      ne-eqb k 0x0100 (m .0 .0 .0 .0 .0 .1),
+      ne-eqb k 0x0101 (m .0 .0 .0 .0 .1),
+      ne-eqb k 0x0102 (m .0 .0 .0 .1),
+      ne-eqb k 0x0103 (m .0 .0 .1),
+      ne-eqb k 0x0104 (m .0 .1),
+      ne-eqb k 0x0105 (m .1),
+      unlisted k _ _ (c .before .before .if1 .left),
+      ← (c .before .unplaced .ensures),
+    ) (c .carried .ensures)
+
+pub norrabist-refusal-spec : {M : Type 1} → statement M
+norrabist-refusal-spec =
+    tie.close
+    (tie.spec
+    of-header-requires
+    of-raw-requires
+    of-plaintext-requires
+    of-message-requires
+    of-walk-requires
+    of-server-requires
+    cast-of-body
+    of-body-requires
+    unplaced-requires
+    carried-requires
+    returns
+    returns-2
+    returns-3
+    returns-4
+    returns-5
+    returns-6
+    returns-7
+    returns-8)
