@@ -1,40 +1,64 @@
 /*
- * Norrabist: a proved reader and writer of TLS records, handshake messages and hellos, for C. A
- * port of parts of tls-parser 0.12.2; link libnorrabist_c.a, which `rust/archive` makes. RULES is
- * docs/RULES.md.
+ * Norrabist: a proved reader and writer of TLS records, handshake messages and hellos, for C and
+ * C++. A port of parts of tls-parser 0.12.2. RULES is docs/RULES.md of its tree.
  *
- * Every pointer goes with the length behind it, in items; it may not be null, even where that is
- * 0. What is lent to be written may overlap nothing else that is lent. No function keeps a pointer,
- * allocates, or reads or writes anything but what is lent to it.
+ * Link libnorrabist_c.a, which `rust/archive` makes, or which a release has for x86-64 and for Arm
+ * (aarch64). The example look.c is built so, in the tree and in a release:
  *
- * A function that answers uint8_t answers a number of enum norrabist_refusal, for every input. A
- * reader that answers NORRABIST_ACCEPTED has put its numbers at the front of `out` and left the
- * rest of it alone; any other answer leaves all of `out` as it was. Where `out` has room for fewer
- * numbers than the value has, the answer is NORRABIST_NO_ROOM; the refusals of the bytes come
- * first, and each function's comment lists those alone. Comments leave out the NORRABIST_ of a
- * name.
+ *     cc -I rust rust/examples/look.c target/native/libnorrabist_c.a -o look
+ *     cc -I include examples/look.c lib/$(uname -m)/libnorrabist_c.a -o look
  *
- * A part is two numbers: where it begins in the bytes that were read, and its length. A part that
- * may be missing is three: 1 and the part, or 0, 0, 0.
+ * Every pointer goes with the length behind it, in bytes; it may not be null, even where that is 0.
+ * What is lent to be written may overlap nothing else that is lent. No function keeps a pointer,
+ * allocates, or reads or writes anything but what is lent to it. Every input has an answer.
+ *
+ * An answer is a struct, by value, or its number alone. `number` is of enum norrabist_reason: where
+ * it is ACCEPTED the other fields tell the value, else they are all 0. Each function's comment
+ * lists what it refuses. Comments leave out the NORRABIST_ of a name.
+ *
+ * A struct tells versions, ciphers and the like as they stand, and of each part its length. Where a
+ * part begins is a constant or a sum of those before it: the constants are the names that end in
+ * _AT, the sums are the inline functions below each struct, the sums that RULES 1.7 states. Places
+ * count from 0 in the bytes that were read. A sum means nothing of a struct that tells a refusal. A
+ * `tail` is where what follows the last field begins: in a hello with absent extensions, it may be
+ * a block that was cut off.
  */
 #ifndef NORRABIST_H
 #define NORRABIST_H
 
+#ifndef __cplusplus
+#include <stdbool.h>
+#endif
 #include <stddef.h>
 #include <stdint.h>
+
+/* The version, as the Rust crate has it. */
+#define NORRABIST_VERSION_MAJOR 0
+#define NORRABIST_VERSION_MINOR 1
+#define NORRABIST_VERSION_PATCH 0
+
+/* NORRABIST_HAS_SIZE(T, n): that a T has n bytes, held where this is compiled. */
+#if defined(__cplusplus)
+#define NORRABIST_HAS_SIZE(of, size) static_assert(sizeof(of) == (size), #of)
+#elif defined(__STDC_VERSION__) && __STDC_VERSION__ >= 201112L
+#define NORRABIST_HAS_SIZE(of, size) _Static_assert(sizeof(of) == (size), #of)
+#else
+#define NORRABIST_HAS_SIZE(of, size) typedef char norrabist_has_##of[sizeof(of) == (size) ? 1 : -1]
+#endif
 
 #ifdef __cplusplus
 extern "C" {
 #endif
 
-/* The table of refusals (RULES 1). */
-enum norrabist_refusal {
+/* The table of refusals (RULES 1). It may grow: a number that is not here is one of a later
+   version, and no other one's. */
+enum norrabist_reason {
     NORRABIST_ACCEPTED = 0,
     /* a part runs past the bytes, but for LENGTH_VALUE's, extensions, list items */
     NORRABIST_INCOMPLETE = 1,
     /* INCOMPLETE in a record's first message; both CertificateRequest forms run out */
     NORRABIST_COMPLETE = 2,
-    /* session id length over MAX_ID_LEN; ticket body under 4 bytes */
+    /* session id length over MAX_ID_LEN; ticket body under TICKET_AT bytes */
     NORRABIST_VERIFY = 3,
     /* cipher length odd or past the end; method length past the end */
     NORRABIST_LENGTH_VALUE = 4,
@@ -44,17 +68,37 @@ enum norrabist_refusal {
     NORRABIST_SWITCH = 6,
     /* record length over MAX_RECORD_LEN, read or to be written */
     NORRABIST_TOO_LARGE = 7,
-    /* a part or number to be written breaks a rule or lies outside its bytes */
+    /* a part or number to be written breaks a rule */
     NORRABIST_BAD_LENGTH = 8,
     /* the output is too short */
     NORRABIST_NO_ROOM = 9,
     /* a known record type but HANDSHAKE, opened as plaintext */
     NORRABIST_ELSEWHERE = 10,
-    /* a walk past its last message */
+    /* a walk past its last message, a list past its last item */
     NORRABIST_NO_SUCH = 11,
     /* a handshake kind that is not written */
     NORRABIST_NOT_YET_IMPLEMENTED = 12
 };
+
+/* The name of a number of that table, as RULES 1.1 has it; "unknown" for any other. */
+static inline const char *norrabist_reason_name(uint8_t number) {
+    switch (number) {
+    case NORRABIST_ACCEPTED: return "accepted";
+    case NORRABIST_INCOMPLETE: return "Incomplete";
+    case NORRABIST_COMPLETE: return "Complete";
+    case NORRABIST_VERIFY: return "Verify";
+    case NORRABIST_LENGTH_VALUE: return "LengthValue";
+    case NORRABIST_TAG: return "Tag";
+    case NORRABIST_SWITCH: return "Switch";
+    case NORRABIST_TOO_LARGE: return "TooLarge";
+    case NORRABIST_BAD_LENGTH: return "BadLength";
+    case NORRABIST_NO_ROOM: return "NoRoom";
+    case NORRABIST_ELSEWHERE: return "Elsewhere";
+    case NORRABIST_NO_SUCH: return "NoSuch";
+    case NORRABIST_NOT_YET_IMPLEMENTED: return "NotYetImplemented";
+    default: return "unknown";
+    }
+}
 
 /* The types of records (RULES 6). */
 enum norrabist_record_type {
@@ -75,46 +119,60 @@ enum norrabist_version {
 };
 
 /* The kinds of handshake messages (RULES 5), by their types on the wire; the ServerHello of draft
-   18, which has the type SERVER_HELLO, by its version. The comment of a kind is the numbers of a
-   message: its kind, then these. `tail` is where what follows the last field begins: in a hello
-   with absent extensions, it may be a block that was cut off. */
+   18, which has the type SERVER_HELLO, by its version. The comment of a kind is the function that
+   reads its body, without norrabist_; a body that none reads is opened whatever it has. */
 enum norrabist_kind {
-    /* no numbers */
+    /* none */
     NORRABIST_HELLO_REQUEST = 0x00,
-    /* version, part random, optional part id, part ciphers, part methods, optional part extensions,
-       tail */
+    /* parse_tls_handshake_client_hello */
     NORRABIST_CLIENT_HELLO = 0x01,
-    /* version, part random, optional part id, cipher, compression, optional part extensions,
-       tail */
+    /* parse_tls_handshake_msg_server_hello */
     NORRABIST_SERVER_HELLO = 0x02,
-    /* lifetime hint, part ticket, tail */
+    /* parse_tls_handshake_msg_newsessionticket */
     NORRABIST_NEW_SESSION_TICKET = 0x04,
-    /* no numbers */
+    /* none */
     NORRABIST_END_OF_EARLY_DATA = 0x05,
-    /* version, cipher, optional part extensions, tail */
+    /* parse_tls_handshake_msg_hello_retry_request */
     NORRABIST_HELLO_RETRY_REQUEST = 0x06,
-    /* part list of certificates, tail */
+    /* parse_tls_handshake_msg_certificate */
     NORRABIST_CERTIFICATE = 0x0b,
-    /* part body */
+    /* take_body */
     NORRABIST_SERVER_KEY_EXCHANGE = 0x0c,
-    /* part types, optional part signature pairs, part list of names, tail */
+    /* parse_tls_handshake_certificaterequest */
     NORRABIST_CERTIFICATE_REQUEST = 0x0d,
-    /* part body */
+    /* take_body */
     NORRABIST_SERVER_DONE = 0x0e,
-    /* part body */
+    /* take_body */
     NORRABIST_CERTIFICATE_VERIFY = 0x0f,
-    /* form (enum norrabist_form), part */
+    /* take_body */
     NORRABIST_CLIENT_KEY_EXCHANGE = 0x10,
-    /* part body */
+    /* take_body */
     NORRABIST_FINISHED = 0x14,
-    /* status type, part response, tail */
+    /* parse_tls_handshake_certificatestatus */
     NORRABIST_CERTIFICATE_STATUS = 0x16,
-    /* request */
+    /* parse_tls_handshake_msg_key_update */
     NORRABIST_KEY_UPDATE = 0x18,
-    /* part protocol, part padding, tail */
+    /* parse_tls_handshake_next_protocol */
     NORRABIST_NEXT_PROTOCOL = 0x43,
-    /* version, part random, cipher, optional part extensions, tail */
+    /* parse_tls_handshake_msg_server_hello */
     NORRABIST_SERVER_HELLO_V13_DRAFT18 = NORRABIST_TLS13_DRAFT18
+};
+
+/* The readers that norrabist_refusal asks besides those of bodies, which have their types (enum
+   norrabist_kind) for numbers. */
+enum norrabist_reader {
+    /* norrabist_parse_tls_record_header */
+    NORRABIST_READER_RECORD_HEADER = 0x0100,
+    /* norrabist_parse_tls_raw_record */
+    NORRABIST_READER_RAW_RECORD = 0x0101,
+    /* a record of type HANDSHAKE with its first message, body included */
+    NORRABIST_READER_PLAINTEXT = 0x0102,
+    /* the message at a byte, body included */
+    NORRABIST_READER_MESSAGE = 0x0103,
+    /* the walk over a record's content, at a byte */
+    NORRABIST_READER_WALK = 0x0104,
+    /* norrabist_parse_tls_handshake_server_hello */
+    NORRABIST_READER_SERVER_HELLO = 0x0105
 };
 
 /* The forms of a ClientKeyExchange. One that was read is FORM_UNKNOWN. */
@@ -127,14 +185,19 @@ enum norrabist_form {
     NORRABIST_FORM_ECDH = 2
 };
 
-/* Limits. */
-enum {
-    /* the content of a record */
-    NORRABIST_MAX_RECORD_LEN = 0x4100,
-    /* type, version, length */
+/* Lengths: those that are set, limits, and how many bytes stand before a part that always begins at
+   the same place. */
+enum norrabist_length {
+    /* a record's type, version and length; its content begins there */
     NORRABIST_RECORD_HEADER_LEN = 5,
-    /* the random of a hello to be written */
+    /* a message's type and length; its body begins there */
+    NORRABIST_MESSAGE_HEAD_LEN = 4,
+    /* the random of a hello */
     NORRABIST_RANDOM_LEN = 32,
+    /* a cipher, a signature pair */
+    NORRABIST_NUMBER_LEN = 2,
+    /* the content of a record, at most */
+    NORRABIST_MAX_RECORD_LEN = 0x4100,
     /* a session id */
     NORRABIST_MAX_ID_LEN = 32,
     /* the ciphers of a hello, an even number of bytes */
@@ -147,135 +210,482 @@ enum {
     NORRABIST_MAX_DH_LEN = 0xffff,
     /* a key exchange of FORM_ECDH */
     NORRABIST_MAX_ECDH_LEN = 0xff,
-    /* a key exchange of FORM_UNKNOWN, a Finished */
+    /* a key exchange of FORM_UNKNOWN, a Finished, any body */
     NORRABIST_MAX_BODY_LEN = 0xffffff,
-    /* room for any message */
-    NORRABIST_MESSAGE_NUMBERS = 15,
-    /* room for any message and the three numbers before it */
-    NORRABIST_MET_NUMBERS = 18,
-    /* room for these and the eight numbers of a record */
-    NORRABIST_OPENED_NUMBERS = 26
+    /* the body of a ClientHello up to its tail (RULES 7.9) */
+    NORRABIST_MAX_CLIENT_HELLO_LEN = 131396,
+    /* in a record: the body of its first message */
+    NORRABIST_FIRST_BODY_AT = 9,
+    /* in a body: the random of a hello */
+    NORRABIST_RANDOM_AT = 2,
+    /* the session id of a ClientHello or ServerHello */
+    NORRABIST_ID_AT = 35,
+    /* the extensions of a ServerHello of draft 18 */
+    NORRABIST_DRAFT18_EXT_AT = 38,
+    /* the extensions of a HelloRetryRequest */
+    NORRABIST_RETRY_EXT_AT = 6,
+    /* the ticket of a NewSessionTicket */
+    NORRABIST_TICKET_AT = 4,
+    /* the list of a Certificate */
+    NORRABIST_CHAIN_AT = 3,
+    /* the types of a CertificateRequest */
+    NORRABIST_TYPES_AT = 1,
+    /* the response of a CertificateStatus */
+    NORRABIST_BLOB_AT = 4,
+    /* the protocol of a NextProtocol */
+    NORRABIST_PROTOCOL_AT = 1
 };
+
+NORRABIST_HAS_SIZE(size_t, 8);
 
 /* ---- Records ---- */
 
-/* The header at the front: type, version, length. What follows it begins at byte RECORD_HEADER_LEN.
+/* A record's header: version, length of the content and type. The content begins at byte
+   RECORD_HEADER_LEN. */
+typedef struct norrabist_record_head_told {
+    uint16_t version;
+    uint16_t len;
+    uint8_t record_type;
+    uint8_t number;
+} norrabist_record_head_told;
+NORRABIST_HAS_SIZE(norrabist_record_head_told, 6);
+
+/* Where the next record begins, of a record that is all there. */
+static inline size_t norrabist_record_head_next(norrabist_record_head_told told) {
+    return (size_t)NORRABIST_RECORD_HEADER_LEN + told.len;
+}
+
+/* The header at the front. The length is told as it stands, over MAX_RECORD_LEN too, and no content
+   is looked for.
    Refuses: INCOMPLETE. */
-uint8_t norrabist_parse_tls_record_header(
-    const uint8_t *i, size_t i_len, size_t *out, size_t out_len);
+norrabist_record_head_told norrabist_parse_tls_record_header(const uint8_t *i, size_t i_len);
 
-/* The record at the front, of any type: type, version, length, part content, where the next record
-   begins.
+/* The record at the front, of any type, encrypted or not.
    Refuses: INCOMPLETE, TOO_LARGE. */
-uint8_t norrabist_parse_tls_raw_record(const uint8_t *i, size_t i_len, size_t *out, size_t out_len);
+norrabist_record_head_told norrabist_parse_tls_raw_record(const uint8_t *i, size_t i_len);
 
-/* The same numbers, of a record whose content is encrypted.
-   Refuses: INCOMPLETE, TOO_LARGE. */
-uint8_t norrabist_parse_tls_encrypted(const uint8_t *i, size_t i_len, size_t *out, size_t out_len);
+/* A record of type HANDSHAKE and the head of its first message: the record's version and length of
+   the content, which begins at byte RECORD_HEADER_LEN, the message's length of the body, which
+   begins at byte FIRST_BODY_AT, and its type. */
+typedef struct norrabist_plaintext_head_told {
+    uint16_t version;
+    uint16_t len;
+    uint16_t body;
+    uint8_t msg_type;
+    uint8_t number;
+} norrabist_plaintext_head_told;
+NORRABIST_HAS_SIZE(norrabist_plaintext_head_told, 8);
 
-/* The record of type HANDSHAKE at the front, opened: type, version, length, part content, how many
-   messages it has (at least one), how many bytes at its end hold none, where the next record
-   begins.
-   Refuses: INCOMPLETE, TOO_LARGE, ELSEWHERE, SWITCH; the first message's refusal, with COMPLETE for
-   INCOMPLETE. */
-uint8_t norrabist_parse_tls_plaintext(const uint8_t *i, size_t i_len, size_t *out, size_t out_len);
+/* Where the next record begins. */
+static inline size_t norrabist_plaintext_head_next(norrabist_plaintext_head_told told) {
+    return (size_t)NORRABIST_RECORD_HEADER_LEN + told.len;
+}
 
-/* The same numbers and refusals; then, of the first message, part body (of the record's content),
-   where the next message begins in the content, and the message, its parts within the body. */
-uint8_t norrabist_open_tls_plaintext(const uint8_t *i, size_t i_len, size_t *out, size_t out_len);
+/* The record of type HANDSHAKE at the front, up to its first message's body; the type of that is a
+   listed one. The record is accepted where the reader of the body accepts too, which is also where
+   norrabist_count_messages counts a message in its content. Where the reader of the body refuses,
+   norrabist_refusal with READER_PLAINTEXT tells the record's refusal, COMPLETE for INCOMPLETE.
+   Refuses: INCOMPLETE, TOO_LARGE; ELSEWHERE, SWITCH, of the record's type; COMPLETE, where the
+   first message is not all there, SWITCH, of its type. */
+norrabist_plaintext_head_told norrabist_parse_tls_plaintext(const uint8_t *i, size_t i_len);
 
 /* ---- Messages ---- */
 
-/* The message at the front: part body, where the next message begins, and the message, its parts
-   within the body.
-   Refuses: INCOMPLETE before the type is looked at, SWITCH, and the body's refusals. */
-uint8_t norrabist_parse_tls_message_handshake(
-    const uint8_t *i, size_t i_len, size_t *out, size_t out_len);
+/* A message's head: where the next message begins, the length of the body, which ends there, and
+   the type, a listed one. */
+typedef struct norrabist_message_head_told {
+    size_t next;
+    uint32_t body;
+    uint8_t msg_type;
+    uint8_t number;
+} norrabist_message_head_told;
+NORRABIST_HAS_SIZE(norrabist_message_head_told, 16);
 
-/* The same numbers, of the message that begins at byte `at` of a record's content; its body is a
-   part of `s`.
-   Refuses: NO_SUCH, where none that can be opened begins there. */
-uint8_t norrabist_record_walk_next(
-    const uint8_t *s, size_t s_len, size_t at, size_t *out, size_t out_len);
+/* Where the body begins: MESSAGE_HEAD_LEN bytes behind the place where the message does. */
+static inline size_t norrabist_message_head_body(norrabist_message_head_told told) {
+    return told.next - told.body;
+}
 
-/* The body of a message of type `msg_type`: the message. `len` is the body's length for
-   NEW_SESSION_TICKET, SERVER_KEY_EXCHANGE, SERVER_DONE, CERTIFICATE_VERIFY, CLIENT_KEY_EXCHANGE and
-   FINISHED, and is not looked at for the others.
-   Refuses: SWITCH, and the body's refusals: INCOMPLETE, COMPLETE (CERTIFICATE_REQUEST), VERIFY,
-   LENGTH_VALUE, TAG. */
-uint8_t norrabist_parse_tls_handshake_msg(
-    uint8_t msg_type, const uint8_t *i, size_t i_len, size_t len, size_t *out, size_t out_len);
+/* The head of the message that begins at byte `at` of `s`. What the body's reader refuses is not
+   looked for: a walk over a record's content ends where this or the body's reader refuses, which
+   norrabist_count_messages tells, and of one message norrabist_refusal with READER_WALK.
+   Refuses: INCOMPLETE, where the message is not all there, then SWITCH. */
+norrabist_message_head_told norrabist_parse_tls_message_head(
+    const uint8_t *s, size_t s_len, size_t at);
 
-/* The body of a ClientHello: the message CLIENT_HELLO.
+/* The messages of a content: how many there are, and where the last one ends. */
+typedef struct norrabist_tally_told {
+    size_t count;
+    size_t end;
+} norrabist_tally_told;
+NORRABIST_HAS_SIZE(norrabist_tally_told, 16);
+
+/* Counts the messages of a record's content from byte `from` on, up to the first that is refused,
+   by its head or by its body. Each begins where the one before it ends, and `end` is `from` where
+   there is none: the bytes from `end` on are dropped.
+   Refuses nothing. */
+norrabist_tally_told norrabist_count_messages(const uint8_t *s, size_t s_len, size_t from);
+
+/* ---- Bodies of hellos ---- */
+
+/* A ClientHello's body: version, and the lengths of the ciphers, extensions, methods and session
+   id. The random begins at byte RANDOM_AT, the id at ID_AT; an id of length 0 is absent. Extensions
+   that are absent have `has_ext` false and the length 0. */
+typedef struct norrabist_client_hello_told {
+    uint16_t version;
+    uint16_t ciphers;
+    uint16_t ext;
+    uint8_t comp;
+    uint8_t session_id;
+    bool has_ext;
+    uint8_t number;
+} norrabist_client_hello_told;
+NORRABIST_HAS_SIZE(norrabist_client_hello_told, 10);
+
+/* Where the ciphers begin: behind the id and their length. */
+static inline size_t norrabist_client_hello_ciphers(norrabist_client_hello_told told) {
+    return (size_t)NORRABIST_ID_AT + told.session_id + 2;
+}
+
+/* Where the methods begin: behind the ciphers and their length. */
+static inline size_t norrabist_client_hello_comp(norrabist_client_hello_told told) {
+    return norrabist_client_hello_ciphers(told) + told.ciphers + 1;
+}
+
+/* Where the methods end, and with them what every ClientHello has. */
+static inline size_t norrabist_client_hello_end(norrabist_client_hello_told told) {
+    return norrabist_client_hello_comp(told) + told.comp;
+}
+
+/* Where the extensions begin, if there are any. */
+static inline size_t norrabist_client_hello_ext(norrabist_client_hello_told told) {
+    return norrabist_client_hello_end(told) + 2;
+}
+
+/* Where the tail begins. */
+static inline size_t norrabist_client_hello_tail(norrabist_client_hello_told told) {
+    return norrabist_client_hello_end(told) + (told.has_ext ? (size_t)2 + told.ext : 0);
+}
+
+/* The body of a ClientHello.
    Refuses: INCOMPLETE, VERIFY, LENGTH_VALUE. */
-uint8_t norrabist_parse_tls_handshake_client_hello(
-    const uint8_t *i, size_t i_len, size_t *out, size_t out_len);
+norrabist_client_hello_told norrabist_parse_tls_handshake_client_hello(
+    const uint8_t *i, size_t i_len);
 
-/* The body of a ServerHello: the message SERVER_HELLO. That of draft 18 is TAG here.
+/* A ServerHello's body: version, cipher, the length of the extensions, compression, and the length
+   of the session id. The random begins at byte RANDOM_AT, the id at ID_AT; an id of length 0 is
+   absent. Extensions that are absent have `has_ext` false and the length 0. At the version
+   TLS13_DRAFT18 there is neither id nor compression: both are 0 and mean nothing. */
+typedef struct norrabist_server_hello_told {
+    uint16_t version;
+    uint16_t cipher;
+    uint16_t ext;
+    uint8_t compression;
+    uint8_t session_id;
+    bool has_ext;
+    uint8_t number;
+} norrabist_server_hello_told;
+NORRABIST_HAS_SIZE(norrabist_server_hello_told, 10);
+
+/* Where the compression ends, or in draft 18 the cipher, and with it what every ServerHello has. */
+static inline size_t norrabist_server_hello_end(norrabist_server_hello_told told) {
+    return told.version == NORRABIST_TLS13_DRAFT18 ? (size_t)NORRABIST_DRAFT18_EXT_AT - 2
+                                                   : (size_t)NORRABIST_ID_AT + told.session_id + 3;
+}
+
+/* Where the extensions begin, if there are any. */
+static inline size_t norrabist_server_hello_ext(norrabist_server_hello_told told) {
+    return norrabist_server_hello_end(told) + 2;
+}
+
+/* Where the tail begins. */
+static inline size_t norrabist_server_hello_tail(norrabist_server_hello_told told) {
+    return norrabist_server_hello_end(told) + (told.has_ext ? (size_t)2 + told.ext : 0);
+}
+
+/* The body of a ServerHello of SSL30 to TLS12; that of draft 18 is TAG here.
    Refuses: INCOMPLETE, TAG, VERIFY. */
-uint8_t norrabist_parse_tls_handshake_server_hello(
-    const uint8_t *i, size_t i_len, size_t *out, size_t out_len);
+norrabist_server_hello_told norrabist_parse_tls_handshake_server_hello(
+    const uint8_t *i, size_t i_len);
 
-/* The body of a CertificateRequest, in the long form or else in the short one: the message
-   CERTIFICATE_REQUEST.
+/* The body of a message of type SERVER_HELLO: the same, or at TLS13_DRAFT18 that of draft 18.
+   Refuses: INCOMPLETE, TAG, VERIFY. */
+norrabist_server_hello_told norrabist_parse_tls_handshake_msg_server_hello(
+    const uint8_t *i, size_t i_len);
+
+/* A HelloRetryRequest's body: version, cipher, and the length of the extensions, which begin at
+   byte RETRY_EXT_AT. Extensions that are absent have `has_ext` false and the length 0. */
+typedef struct norrabist_hello_retry_request_told {
+    uint16_t version;
+    uint16_t cipher;
+    uint16_t ext;
+    bool has_ext;
+    uint8_t number;
+} norrabist_hello_retry_request_told;
+NORRABIST_HAS_SIZE(norrabist_hello_retry_request_told, 8);
+
+/* Where the tail begins. */
+static inline size_t norrabist_hello_retry_request_tail(norrabist_hello_retry_request_told told) {
+    return (size_t)NORRABIST_RETRY_EXT_AT - 2 + (told.has_ext ? (size_t)2 + told.ext : 0);
+}
+
+/* The body of a HelloRetryRequest.
+   Refuses: INCOMPLETE. */
+norrabist_hello_retry_request_told norrabist_parse_tls_handshake_msg_hello_retry_request(
+    const uint8_t *i, size_t i_len);
+
+/* ---- Other bodies ---- */
+
+/* A NewSessionTicket's body: the length of the ticket, which begins at byte TICKET_AT, and the
+   lifetime hint. */
+typedef struct norrabist_new_session_ticket_told {
+    size_t ticket;
+    uint32_t hint;
+    uint8_t number;
+} norrabist_new_session_ticket_told;
+NORRABIST_HAS_SIZE(norrabist_new_session_ticket_told, 16);
+
+/* Where the tail begins. */
+static inline size_t norrabist_new_session_ticket_tail(norrabist_new_session_ticket_told told) {
+    return (size_t)NORRABIST_TICKET_AT + told.ticket;
+}
+
+/* The body of a NewSessionTicket, the first `len` bytes of `i`.
+   Refuses: VERIFY, where `len` is under TICKET_AT, then INCOMPLETE. */
+norrabist_new_session_ticket_told norrabist_parse_tls_handshake_msg_newsessionticket(
+    const uint8_t *i, size_t i_len, size_t len);
+
+/* A Certificate's body: the length of the list of certificates, which begins at byte CHAIN_AT. */
+typedef struct norrabist_certificate_told {
+    uint32_t chain;
+    uint8_t number;
+} norrabist_certificate_told;
+NORRABIST_HAS_SIZE(norrabist_certificate_told, 8);
+
+/* Where the tail begins. */
+static inline size_t norrabist_certificate_tail(norrabist_certificate_told told) {
+    return (size_t)NORRABIST_CHAIN_AT + told.chain;
+}
+
+/* The body of a Certificate; norrabist_certificate_at reads the list.
+   Refuses: INCOMPLETE. */
+norrabist_certificate_told norrabist_parse_tls_handshake_msg_certificate(
+    const uint8_t *i, size_t i_len);
+
+/* A CertificateRequest's body: the lengths of the signature pairs, of the list of names and of the
+   types, which begin at byte TYPES_AT and have one byte each. The short form has no pairs:
+   `has_pairs` is false and their length 0. */
+typedef struct norrabist_certificate_request_told {
+    uint16_t pairs;
+    uint16_t names;
+    uint8_t types;
+    bool has_pairs;
+    uint8_t number;
+} norrabist_certificate_request_told;
+NORRABIST_HAS_SIZE(norrabist_certificate_request_told, 8);
+
+/* Where the signature pairs begin, if there are any. */
+static inline size_t norrabist_certificate_request_pairs(norrabist_certificate_request_told told) {
+    return (size_t)NORRABIST_TYPES_AT + told.types + 2;
+}
+
+/* Where the list of names begins. */
+static inline size_t norrabist_certificate_request_names(norrabist_certificate_request_told told) {
+    return norrabist_certificate_request_pairs(told) +
+           (told.has_pairs ? (size_t)told.pairs + 2 : 0);
+}
+
+/* Where the tail begins. */
+static inline size_t norrabist_certificate_request_tail(norrabist_certificate_request_told told) {
+    return norrabist_certificate_request_names(told) + told.names;
+}
+
+/* The body of a CertificateRequest, in the long form or else in the short one; norrabist_number_at
+   reads the pairs and norrabist_name_at the names.
    Refuses: COMPLETE. */
-uint8_t norrabist_parse_tls_handshake_certificaterequest(
-    const uint8_t *i, size_t i_len, size_t *out, size_t out_len);
+norrabist_certificate_request_told norrabist_parse_tls_handshake_certificaterequest(
+    const uint8_t *i, size_t i_len);
 
-/* The body of a CertificateStatus: the message CERTIFICATE_STATUS.
+/* A CertificateStatus's body: the length of the response, which begins at byte BLOB_AT, and its
+   type. */
+typedef struct norrabist_certificate_status_told {
+    uint32_t blob;
+    uint8_t status_type;
+    uint8_t number;
+} norrabist_certificate_status_told;
+NORRABIST_HAS_SIZE(norrabist_certificate_status_told, 8);
+
+/* Where the tail begins. */
+static inline size_t norrabist_certificate_status_tail(norrabist_certificate_status_told told) {
+    return (size_t)NORRABIST_BLOB_AT + told.blob;
+}
+
+/* The body of a CertificateStatus.
    Refuses: INCOMPLETE. */
-uint8_t norrabist_parse_tls_handshake_certificatestatus(
-    const uint8_t *i, size_t i_len, size_t *out, size_t out_len);
+norrabist_certificate_status_told norrabist_parse_tls_handshake_certificatestatus(
+    const uint8_t *i, size_t i_len);
 
-/* The body of a NextProtocol: the message NEXT_PROTOCOL.
+/* A NextProtocol's body: the lengths of the protocol, which begins at byte PROTOCOL_AT, and of the
+   padding. */
+typedef struct norrabist_next_protocol_told {
+    uint8_t protocol;
+    uint8_t padding;
+    uint8_t number;
+} norrabist_next_protocol_told;
+NORRABIST_HAS_SIZE(norrabist_next_protocol_told, 3);
+
+/* Where the padding begins: behind the protocol and its length. */
+static inline size_t norrabist_next_protocol_padding(norrabist_next_protocol_told told) {
+    return (size_t)NORRABIST_PROTOCOL_AT + told.protocol + 1;
+}
+
+/* Where the tail begins. */
+static inline size_t norrabist_next_protocol_tail(norrabist_next_protocol_told told) {
+    return norrabist_next_protocol_padding(told) + told.padding;
+}
+
+/* The body of a NextProtocol.
    Refuses: INCOMPLETE. */
-uint8_t norrabist_parse_tls_handshake_next_protocol(
-    const uint8_t *i, size_t i_len, size_t *out, size_t out_len);
+norrabist_next_protocol_told norrabist_parse_tls_handshake_next_protocol(
+    const uint8_t *i, size_t i_len);
 
-/* ---- Lists ----
-   As many items as `out` has room for. The answer is how many numbers were told: where there is no
-   room for one more item there may be others, else these are the last. The rest of `out` is left
-   alone. */
+/* A KeyUpdate's body: its one byte. */
+typedef struct norrabist_key_update_told {
+    uint8_t request;
+    uint8_t number;
+} norrabist_key_update_told;
+NORRABIST_HAS_SIZE(norrabist_key_update_told, 2);
 
-/* Numbers of two bytes (ciphers, signature pairs), from the one at place `from` on: one number
-   each. An odd byte at the end is none. */
-size_t norrabist_numbers(
-    const uint8_t *list, size_t list_len, size_t from, uint16_t *out, size_t out_len);
+/* The body of a KeyUpdate; the tail begins at byte 1.
+   Refuses: INCOMPLETE. */
+norrabist_key_update_told norrabist_parse_tls_handshake_msg_key_update(
+    const uint8_t *i, size_t i_len);
 
-/* Certificates, the first beginning, with its length, at byte `from`: a part of the list for each.
-   The next one begins behind the last part. */
-size_t norrabist_certificates(
-    const uint8_t *list, size_t list_len, size_t from, size_t *out, size_t out_len);
+/* A body that is handed out whole, the first `len` bytes of `i`: SERVER_KEY_EXCHANGE, SERVER_DONE,
+   CERTIFICATE_VERIFY, CLIENT_KEY_EXCHANGE, FINISHED. A body as norrabist_parse_tls_message_head
+   tells of it is there; this is for a length from elsewhere. Answers the number.
+   Refuses: INCOMPLETE. */
+uint8_t norrabist_take_body(const uint8_t *i, size_t i_len, size_t len);
 
-/* The names of a CertificateRequest, the same way. */
-size_t norrabist_names(
-    const uint8_t *list, size_t list_len, size_t from, size_t *out, size_t out_len);
+/* ---- Lists ---- */
 
-/* The messages of a record's content that can be opened, the first beginning at byte `from`: type
-   and part body for each. The next one begins behind the last body. */
-size_t norrabist_messages(
-    const uint8_t *content, size_t content_len, size_t from, size_t *out, size_t out_len);
+/* An item behind its length: where it begins in the list, and its length. */
+typedef struct norrabist_item_told {
+    size_t start;
+    uint32_t len;
+    uint8_t number;
+} norrabist_item_told;
+NORRABIST_HAS_SIZE(norrabist_item_told, 16);
+
+/* Where the next item's length stands. */
+static inline size_t norrabist_item_next(norrabist_item_told told) {
+    return told.start + told.len;
+}
+
+/* The certificate whose length stands at byte `at` of a Certificate's list: that of the first at 0,
+   of each other where the one before it ends. What holds no item at the list's end is no refusal of
+   the body.
+   Refuses: NO_SUCH, where none fits. */
+norrabist_item_told norrabist_certificate_at(const uint8_t *list, size_t list_len, size_t at);
+
+/* The name whose length stands at byte `at` of a CertificateRequest's names, the same way.
+   Refuses: NO_SUCH, where none fits. */
+norrabist_item_told norrabist_name_at(const uint8_t *list, size_t list_len, size_t at);
+
+/* An item that is a number of two bytes. */
+typedef struct norrabist_number_told {
+    uint16_t value;
+    uint8_t number;
+} norrabist_number_told;
+NORRABIST_HAS_SIZE(norrabist_number_told, 4);
+
+/* How many numbers a list of so many bytes has; an odd byte at the end is none. */
+static inline size_t norrabist_number_count(size_t list_len) {
+    return list_len / NORRABIST_NUMBER_LEN;
+}
+
+/* The cipher, or the signature pair, at a place of its list, counted from 0.
+   Refuses: NO_SUCH, past the last. */
+norrabist_number_told norrabist_number_at(const uint8_t *list, size_t list_len, size_t place);
+
+/* ---- Refusals ---- */
+
+/* All that a refusal carries. It may grow at its end, with the version: no other struct does. */
+typedef struct norrabist_refusal_told {
+    uint8_t number;
+} norrabist_refusal_told;
+NORRABIST_HAS_SIZE(norrabist_refusal_told, 1);
+
+/* What the refusal of a reader carries, of the same bytes; ACCEPTED where it does not refuse. Not
+   for the way that is taken often: it reads again. `reader` is a type of enum norrabist_kind, for
+   the reader of such a body, where `n` is the body's length (looked at for NEW_SESSION_TICKET and
+   the kinds of norrabist_take_body; give `i_len`), or one of enum norrabist_reader, where `n` is
+   the byte at which the message of READER_MESSAGE or READER_WALK begins, and 0 else.
+   Refuses: what that reader does; NO_SUCH of READER_WALK for whatever refusal; SWITCH, for a type
+   that is not listed and any other number. */
+norrabist_refusal_told norrabist_refusal(
+    uint16_t reader, const uint8_t *i, size_t i_len, size_t n);
 
 /* ---- Writers (RULES 7) ----
-   Where the answer is ACCEPTED, `*count` bytes at the front of `out` are the text; else `*count`
-   and `out` are as they were. Bytes of `out` behind the text are left alone. */
+   Where the number is ACCEPTED, `count` bytes at the front of `out` are the text; else `out` is as
+   it was. Bytes of `out` behind the text are left alone. `count` is the text's length where it is
+   NO_ROOM too: an `out_len` of 0 asks for it. It is 0 at any other refusal. Every length is checked
+   before a byte is written. A hello's part of length 0 is one that is absent: an id is written as
+   00 then, extensions as 00 00. */
 
-/* The message that the numbers `m` tell of, its parts within `i`: HELLO_REQUEST, CLIENT_HELLO,
-   SERVER_HELLO, SERVER_HELLO_V13_DRAFT18, CLIENT_KEY_EXCHANGE and FINISHED. A `tail` is not looked
-   at; numbers behind the message neither. Absent extensions are written as 00 00, an absent id
-   as 00.
-   Refuses: NOT_YET_IMPLEMENTED; BAD_LENGTH, for numbers that are too few or too large, parts
-   outside `i` or over their limits, a random that is not RANDOM_LEN bytes, an odd number of cipher
-   bytes; then NO_ROOM. */
-uint8_t norrabist_gen_tls_messagehandshake(
-    const size_t *m, size_t m_len, const uint8_t *i, size_t i_len, uint8_t *out, size_t out_len,
-    size_t *count);
+/* What was written. */
+typedef struct norrabist_wrote {
+    size_t count;
+    uint8_t number;
+} norrabist_wrote;
+NORRABIST_HAS_SIZE(norrabist_wrote, 16);
+
+/* A message ClientHello.
+   Refuses: BAD_LENGTH, for a random that is not RANDOM_LEN bytes, an odd number of cipher bytes and
+   a part over its limit; then NO_ROOM. */
+norrabist_wrote norrabist_gen_tls_clienthello(
+    uint16_t version, const uint8_t *random, size_t random_len, const uint8_t *session_id,
+    size_t session_id_len, const uint8_t *ciphers, size_t ciphers_len, const uint8_t *comp,
+    size_t comp_len, const uint8_t *ext, size_t ext_len, uint8_t *out, size_t out_len);
+
+/* A message ServerHello, of any version.
+   Refuses: BAD_LENGTH, for a random that is not RANDOM_LEN bytes and a part over its limit; then
+   NO_ROOM. */
+norrabist_wrote norrabist_gen_tls_serverhello(
+    uint16_t version, const uint8_t *random, size_t random_len, const uint8_t *session_id,
+    size_t session_id_len, uint16_t cipher, uint8_t compression, const uint8_t *ext, size_t ext_len,
+    uint8_t *out, size_t out_len);
+
+/* A message ServerHello in the form of draft 18, of any version.
+   Refuses: BAD_LENGTH, for a random that is not RANDOM_LEN bytes and extensions over their limit;
+   then NO_ROOM. */
+norrabist_wrote norrabist_gen_tls_serverhellodraft18(
+    uint16_t version, const uint8_t *random, size_t random_len, uint16_t cipher, const uint8_t *ext,
+    size_t ext_len, uint8_t *out, size_t out_len);
+
+/* A message ClientKeyExchange; `form` is of enum norrabist_form.
+   Refuses: BAD_LENGTH, for any other form and a part over its limit; then NO_ROOM. */
+norrabist_wrote norrabist_gen_tls_clientkeyexchange(
+    uint8_t form, const uint8_t *part, size_t part_len, uint8_t *out, size_t out_len);
+
+/* A message HelloRequest.
+   Refuses: NO_ROOM. */
+norrabist_wrote norrabist_gen_tls_hellorequest(uint8_t *out, size_t out_len);
+
+/* A message Finished.
+   Refuses: BAD_LENGTH, over MAX_BODY_LEN; then NO_ROOM. */
+norrabist_wrote norrabist_gen_tls_finished(
+    const uint8_t *part, size_t part_len, uint8_t *out, size_t out_len);
 
 /* A record of that type and version round `msg`, which is not opened.
-   Refuses: TOO_LARGE, then NO_ROOM. */
-uint8_t norrabist_gen_tls_plaintext(
+   Refuses: TOO_LARGE, over MAX_RECORD_LEN; then NO_ROOM. */
+norrabist_wrote norrabist_gen_tls_plaintext(
     uint8_t record_type, uint16_t version, const uint8_t *msg, size_t msg_len, uint8_t *out,
-    size_t out_len, size_t *count);
+    size_t out_len);
+
+/* Whether messages of a kind (enum norrabist_kind) are written. Answers the number.
+   Refuses: NOT_YET_IMPLEMENTED. */
+uint8_t norrabist_kind_written(uint16_t kind);
 
 #ifdef __cplusplus
 }

@@ -25,7 +25,7 @@ fn main() {
                     "record at {at}: {record_type}, {version}, {len} bytes, {} dropped",
                     record.dropped()
                 );
-                record.msg.iter().for_each(|message| show(&message));
+                record.msg.handshakes().for_each(|message| show(&message));
             }
             Err(refusal) => println!("record at {at}: refused, {refusal}"),
         }

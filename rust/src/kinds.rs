@@ -1,130 +1,138 @@
 //! What is made of the table of kinds (`table.rs`).
 
-/// Makes of the table the handshake types, the kinds' numbers, and how messages are told, said and
-/// handed on.
+/// Makes of the table the handshake types, what is told of a message, and how it is opened.
 macro_rules! kinds {
     (
         nothing { $($nothing:ident = $nothing_type:literal;)* }
         body { $($body:ident = $body_type:literal;)* }
-        byte { $($byte:ident = $byte_type:literal;)* }
-        fields { $($kind:ident = $kind_type:literal, $contents:ident $fields:tt;)* }
-        shared { $($twin:ident = $version:ident of $of:ident, $twin_contents:ident $twin_fields:tt;)* }
-        unread { $($other:ident = $other_type:literal;)* }
+        fields { $($kind:ident = $kind_type:literal, $read:ident as $told:ident;)* }
+        shared { $(
+            $one:ident by $one_value:ident, $other:ident by $other_value:ident at $version:ident
+                = $shared_type:literal, $shared:ident as $shared_told:ident;
+        )* }
+        unread { $($unread:ident = $unread_type:literal;)* }
     ) => {
         newtype! {
             /// The type of a handshake message (RULES 5, RFC 5246 7.4).
             TlsHandshakeType(u8) {
                 $($nothing = $nothing_type,)*
                 $($body = $body_type,)*
-                $($byte = $byte_type,)*
                 $($kind = $kind_type,)*
-                $($other = $other_type,)*
+                $($one = $shared_type,)*
+                $($unread = $unread_type,)*
             }
         }
 
-        /// The numbers of the kinds.
-        #[allow(non_upper_case_globals)]
-        pub(crate) mod kind {
-            $(pub const $nothing: usize = $nothing_type;)*
-            $(pub const $body: usize = $body_type;)*
-            $(pub const $byte: usize = $byte_type;)*
-            $(pub const $kind: usize = $kind_type;)*
-            $(pub const $twin: usize = super::TlsVersion::$version.0 as usize;)*
-        }
-
-        $(contents!($contents $fields);)*
-        $(contents!($twin_contents $twin_fields);)*
-
-        impl<'a> TlsMessageHandshake<'a> {
+        impl TlsMessageHandshake<'_> {
             /// The type that a message of this kind has on the wire.
             pub fn handshake_type(&self) -> TlsHandshakeType {
                 match self {
                     $(Self::$nothing => TlsHandshakeType::$nothing,)*
                     $(Self::$body(_) => TlsHandshakeType::$body,)*
-                    $(Self::$byte(_) => TlsHandshakeType::$byte,)*
                     $(Self::$kind(_) => TlsHandshakeType::$kind,)*
-                    $(Self::$twin(_) => TlsHandshakeType::$of,)*
+                    $(Self::$one(_) | Self::$other(_) => TlsHandshakeType::$one,)*
                 }
             }
 
-            /// The message that is told; none for a number of no kind.
+            /// The number of the kind: its type, or its version where it shares that of another.
+            pub(crate) fn kind(&self) -> u16 {
+                match self {
+                    $(Self::$other(_) => TlsVersion::$version.0,)*
+                    _ => self.handshake_type().0.into(),
+                }
+            }
+        }
+
+        /// A message as it was told: its kind, and what the reader of its body tells. The value is
+        /// made when it is looked at.
+        #[derive(Clone, Copy)]
+        #[repr(u8)]
+        pub(crate) enum Told {
+            $($nothing = $nothing_type,)*
+            $($body = $body_type,)*
+            $($kind(ffi::kept::$told) = $kind_type,)*
+            $($one(ffi::kept::$shared_told) = $shared_type,)*
+        }
+
+        impl Told {
+            /// The type that the message has on the wire.
             #[inline(always)]
-            pub(crate) fn told(row: &mut Row<'_, 'a>) -> Option<Self> {
-                Some(match row.number() {
-                    $(kind::$nothing => Self::$nothing,)*
-                    $(kind::$body => Self::$body(Told::told(row)),)*
-                    $(kind::$byte => Self::$byte(Told::told(row)),)*
-                    $(kind::$kind => Self::$kind(Told::told(row)),)*
-                    $(kind::$twin => Self::$twin(Told::told(row)),)*
+            pub fn handshake_type(self) -> TlsHandshakeType {
+                match self {
+                    $(Told::$nothing => TlsHandshakeType::$nothing,)*
+                    $(Told::$body => TlsHandshakeType::$body,)*
+                    $(Told::$kind(_) => TlsHandshakeType::$kind,)*
+                    $(Told::$one(_) => TlsHandshakeType::$one,)*
+                }
+            }
+
+            /// What is told of a body by its [`met`] type; none where the head or the body is
+            /// refused.
+            #[inline(always)]
+            pub fn of(met: u16, body: &[u8]) -> Option<Told> {
+                Some(match met {
+                    $($nothing_type => Told::$nothing,)*
+                    $($body_type => Told::$body,)*
+                    $($kind_type => {
+                        let told = ffi::$read(body);
+                        if told.number != 0 {
+                            return None;
+                        }
+                        Told::$kind(ffi::kept::$told::keep(told))
+                    })*
+                    $($shared_type => {
+                        let told = ffi::$shared(body);
+                        if told.number != 0 {
+                            return None;
+                        }
+                        Told::$one(ffi::kept::$shared_told::keep(told))
+                    })*
+                    // no other type is listed
                     _ => return None,
                 })
             }
 
-            /// The message as the archive takes it.
-            pub(crate) fn said(&self) -> Gathered<'_> {
-                match self {
-                    $(Self::$nothing => Gathered::of(kind::$nothing, &()),)*
-                    $(Self::$body(value) => Gathered::of(kind::$body, value),)*
-                    $(Self::$byte(value) => Gathered::of(kind::$byte, value),)*
-                    $(Self::$kind(value) => Gathered::of(kind::$kind, value),)*
-                    $(Self::$twin(value) => Gathered::of(kind::$twin, value),)*
-                }
-            }
-        }
-
-        impl<'a> TlsMessageHead<'a> {
-            /// Hands the message on to `then`. Some bodies are all that there is to it; the others
-            /// are opened.
+            /// Hands the message on to `then`; to `outside` where its parts do not lie in the body,
+            /// which no export tells.
             ///
             /// Each kind has a call of its own, so that a caller who looks at the kind need not do
             /// so again.
-            #[inline]
-            pub(crate) fn hand_on<B>(
-                self,
-                so_far: B,
-                then: &mut impl FnMut(B, TlsMessageHandshake<'a>) -> B,
-            ) -> B {
-                let body = self.body;
-                match self.kind {
-                    $(TlsHandshakeType::$nothing => then(so_far, TlsMessageHandshake::$nothing),)*
-                    $(TlsHandshakeType::$body => {
-                        then(so_far, TlsMessageHandshake::$body(Whole::whole(body)))
+            #[inline(always)]
+            pub fn hand_on<'a, B, T: Then<'a, B>>(self, body: &'a [u8], so_far: B, then: T) -> T::Answer {
+                match self {
+                    $(Told::$nothing => then.then(so_far, TlsMessageHandshake::$nothing),)*
+                    $(Told::$body => then.then(so_far, TlsMessageHandshake::$body(Whole::whole(body))),)*
+                    $(Told::$kind(told) => match told::$read(told.told(), body) {
+                        Some((_, contents)) => then.then(so_far, TlsMessageHandshake::$kind(contents)),
+                        None => T::outside(so_far),
                     })*
-                    kind => match opened(kind, body) {
-                        Some(message) => then(so_far, message),
-                        None => so_far,
-                    },
+                    $(Told::$one(told) if told.version == TlsVersion::$version.0 => {
+                        match told::$other_value(told.told(), body) {
+                            Some((_, contents)) => then.then(so_far, TlsMessageHandshake::$other(contents)),
+                            None => T::outside(so_far),
+                        }
+                    }
+                    Told::$one(told) => match told::$one_value(told.told(), body) {
+                        Some((_, contents)) => then.then(so_far, TlsMessageHandshake::$one(contents)),
+                        None => T::outside(so_far),
+                    })*
                 }
             }
-        }
-    };
-}
 
-/// Makes of the names of its fields how the contents of a message are told and said.
-macro_rules! contents {
-    ($contents:ident { $($field:ident)*; tail }) => {
-        contents!($contents { $($field)* } (tail));
-    };
-    ($contents:ident { $($field:ident)*; .. }) => {
-        contents!($contents { $($field)* } ());
-    };
-    ($contents:ident { $($field:ident)* } ($($tail:ident)?)) => {
-        impl<'a> Told<'a> for $contents<'a> {
+            /// The message; none where its parts do not lie in the body.
             #[inline(always)]
-            fn told(row: &mut Row<'_, 'a>) -> Self {
-                $(let $field = Told::told(row);)*
-                let _tail = row.tail();
-                $contents { $($field,)* $($tail: _tail)? }
+            pub fn message(self, body: &[u8]) -> Option<TlsMessageHandshake<'_>> {
+                self.hand_on(body, (), Alone)
             }
         }
 
-        impl Said for $contents<'_> {
-            fn said<'s>(&'s self, to: &mut Gathered<'s>) {
-                $(self.$field.said(to);)*
-                to.tail();
-            }
+        /// A type as it was met: behind the number of a refusal it is that of no message. So one
+        /// match looks at both.
+        #[inline(always)]
+        pub(crate) fn met(msg_type: u8, number: u8) -> u16 {
+            u16::from_le_bytes([msg_type, number])
         }
     };
 }
 
-pub(crate) use {contents, kinds};
+pub(crate) use kinds;

@@ -10,7 +10,7 @@
 //! absent, the tail may be a block that was cut off.
 //!
 //! ```
-//! use norrabist::{parse_tls_plaintext, TlsMessageHandshake, TlsVersion};
+//! use norrabist::{parse_tls_plaintext, TlsMessage, TlsMessageHandshake, TlsVersion};
 //!
 //! // a record with a ClientHello that offers two ciphers, the end of its extension block cut off
 //! let mut record = vec![0x16, 0x03, 0x01, 0, 49, 0x01, 0, 0, 45, 0x03, 0x03];
@@ -20,7 +20,9 @@
 //! let (rest, record) = parse_tls_plaintext(&record)?;
 //! assert!(rest.is_empty() && record.count() == 1 && record.dropped() == 0);
 //! for message in &record.msg {
-//!     let TlsMessageHandshake::ClientHello(hello) = message else { continue };
+//!     let TlsMessage::Handshake(TlsMessageHandshake::ClientHello(hello)) = message else {
+//!         continue;
+//!     };
 //!     assert_eq!(hello.version, TlsVersion::Tls12);
 //!     assert!(hello.ciphers.iter().any(|cipher| cipher.0 == 0xc02f));
 //!     assert!(hello.ext.is_none());
@@ -32,17 +34,36 @@
 //! A writer fills a lent output, and changes none of it where it refuses.
 //!
 //! ```
-//! use norrabist::{gen_tls_finished, Refusal};
+//! use norrabist::{gen_tls_finished, gen_tls_finished_len, Reason};
 //!
 //! let mut out = [0xff; 8];
 //! assert_eq!(gen_tls_finished(&[1, 2, 3], &mut out), Ok(7));
 //! assert_eq!(out, [0x14, 0, 0, 3, 1, 2, 3, 0xff]);
-//! assert_eq!(gen_tls_finished(&[9; 5], &mut out), Err(Refusal::NoRoom));
+//! let refused = gen_tls_finished(&[9; 5], &mut out);
+//! assert_eq!(refused.map_err(|refusal| refusal.reason), Err(Reason::NoRoom));
 //! assert_eq!(out, [0x14, 0, 0, 3, 1, 2, 3, 0xff]);
+//! assert_eq!(gen_tls_finished_len(&[9; 5]), Ok(9));
 //! ```
 
+#![no_std]
 #![deny(unsafe_op_in_unsafe_fn, missing_docs)]
 
+#[cfg(not(all(
+    target_os = "linux",
+    target_pointer_width = "64",
+    target_endian = "little",
+    any(target_arch = "x86_64", target_arch = "aarch64")
+)))]
+compile_error!(
+    "norrabist: the proved archive is for Linux on x86-64 and on Arm (aarch64), and no other machine"
+);
+
+#[cfg(feature = "alloc")]
+extern crate alloc;
+#[cfg(feature = "std")]
+extern crate std;
+
+mod ciphers;
 mod ffi;
 mod handshake;
 mod kinds;
@@ -52,16 +73,22 @@ mod messages;
 mod newtypes;
 mod record;
 mod refusal;
+#[cfg(feature = "alloc")]
+mod serialize;
 mod table;
+mod text;
 mod told;
 mod write;
 
+pub use ciphers::*;
 pub use handshake::*;
-pub use lists::{Bytes, Item, List, Numbers, Parts};
+pub use lists::{Fixed, Item, List, Parts, Refs, Values};
 pub use message::*;
-pub use messages::{record_walk_next, Heads, Messages, TlsMessageHead, TlsMessages};
+pub use messages::{record_walk_next, Handshakes, Heads, Messages, TlsMessageHead, TlsMessages};
 pub use record::*;
-pub use refusal::Refusal;
+pub use refusal::{Reason, Refusal};
+#[cfg(feature = "alloc")]
+pub use serialize::{GenError, Serialize};
 pub use table::*;
 pub use write::*;
 

@@ -3,141 +3,222 @@
 //! The functions of bodies are given a body alone, without type and length, and hand back what they
 //! leave over.
 
-use crate::ffi::{self, Reader};
+use crate::ffi::{self, cut};
 use crate::handshake::*;
-use crate::table::{TlsHandshakeType, MET_NUMBERS};
-use crate::told::{self, part, rest};
+use crate::refusal::refused;
+use crate::table::{met, reader, TlsHandshakeType, Told, MESSAGE_HEAD_LEN};
+use crate::told::{self, Left, Whole};
 use crate::Read;
 
 /// Reads the message at the front: type, length and body.
 ///
-/// Refuses: `Incomplete`, where type, length or body are not all there; then by the body, or
-/// `Switch`.
-#[inline]
-pub fn parse_tls_message_handshake(i: &[u8]) -> Read<'_, TlsMessageHandshake<'_>> {
-    let [start, len, next, message @ ..] = Reader::MESSAGE.read::<MET_NUMBERS>(i)?;
-    let message = told::message(&message, part(i, start, len))?;
-    Ok((rest(i, next), message))
-}
-
-/// The body of a message of that type.
-#[inline]
-fn open(msg_type: TlsHandshakeType, i: &[u8], len: usize) -> Read<'_, TlsMessageHandshake<'_>> {
-    told::opened(&ffi::body(msg_type.0, i, len)?, i)
-}
-
-/// Reads the body of a ClientHello.
+/// # Errors
 ///
-/// Refuses: `Incomplete`, `Verify`, `LengthValue`.
+/// `Incomplete`, where type, length or body are not all there; then by the body, or `Switch`.
 #[inline]
-pub fn parse_tls_handshake_client_hello(i: &[u8]) -> Read<'_, TlsClientHelloContents<'_>> {
-    Ok(told::contents(&Reader::CLIENT_HELLO.read(i)?, i))
+pub fn parse_tls_message_handshake(i: &[u8]) -> Read<'_, TlsMessage<'_>> {
+    match opened(i) {
+        Some(read) => Ok(read),
+        None => Err(refused(reader::MESSAGE, i, 0)),
+    }
 }
 
-/// Reads the body of a ServerHello, but not of draft 18.
-///
-/// Refuses: `Incomplete`, `Tag`, `Verify`.
-#[inline]
-pub fn parse_tls_handshake_server_hello(i: &[u8]) -> Read<'_, TlsServerHelloContents<'_>> {
-    Ok(told::contents(&Reader::SERVER_HELLO.read(i)?, i))
+/// The message at the front; none where it is refused.
+#[inline(always)]
+fn opened(i: &[u8]) -> Left<'_, TlsMessage<'_>> {
+    let head = ffi::message_head(i, 0);
+    let ([_, body], rest) = cut(i, [MESSAGE_HEAD_LEN, head.body])?;
+    let message = Told::of(met(head.msg_type, head.number), body)?.message(body)?;
+    Some((rest, TlsMessage::Handshake(message)))
 }
 
-/// Reads the body of a CertificateRequest: the long form, or else the short one.
-///
-/// Refuses: `Complete`.
-#[inline]
-pub fn parse_tls_handshake_certificaterequest(i: &[u8]) -> Read<'_, TlsCertificateRequestContents<'_>> {
-    Ok(told::contents(&Reader::REQUEST.read(i)?, i))
+/// What is left over and the value, as told; or why the reader refuses.
+macro_rules! read {
+    ($read:ident of $i:ident, by $reader:expr) => {{
+        let told = ffi::$read($i);
+        let value = if told.number == 0 { told::$read(told, $i) } else { None };
+        value.ok_or_else(|| refused($reader, $i, $i.len()))
+    }};
 }
 
-/// Reads the body of a CertificateStatus.
-///
-/// Refuses: `Incomplete`.
-#[inline]
-pub fn parse_tls_handshake_certificatestatus(i: &[u8]) -> Read<'_, TlsCertificateStatusContents<'_>> {
-    Ok(told::contents(&Reader::STATUS.read(i)?, i))
-}
-
-/// Reads the body of a NextProtocol.
-///
-/// Refuses: `Incomplete`.
-#[inline]
-pub fn parse_tls_handshake_next_protocol(i: &[u8]) -> Read<'_, TlsNextProtocolContent<'_>> {
-    Ok(told::contents(&Reader::NEXT_PROTOCOL.read(i)?, i))
-}
-
-/// Readers of bodies by type, given the bytes alone.
+/// Readers of bodies, given the bytes alone: of the contents, and of the message that they are.
 macro_rules! bodies {
-    ($($(#[$doc:meta])* $name:ident: $kind:ident;)*) => {$(
-        $(#[$doc])*
-        pub fn $name(i: &[u8]) -> Read<'_, TlsMessageHandshake<'_>> {
-            open(TlsHandshakeType::$kind, i, i.len())
-        }
-    )*};
-}
-
-/// Readers of bodies by type, given the body's length too.
-macro_rules! sized_bodies {
-    ($($(#[$doc:meta])* $name:ident: $kind:ident;)*) => {$(
-        $(#[$doc])*
-        pub fn $name(i: &[u8], len: usize) -> Read<'_, TlsMessageHandshake<'_>> {
-            open(TlsHandshakeType::$kind, i, len)
-        }
-    )*};
+    (
+        contents { $(
+            $(#[$doc:meta])*
+            $name:ident -> $of:ident = $read:ident by $reader:expr;
+        )* }
+        messages { $(
+            $(#[$message_doc:meta])*
+            $message_name:ident = $kind:ident of $message_read:ident;
+        )* }
+    ) => {
+        $(
+            $(#[$doc])*
+            #[inline]
+            pub fn $name(i: &[u8]) -> Read<'_, $of<'_>> {
+                read!($read of i, by $reader)
+            }
+        )*
+        $(
+            $(#[$message_doc])*
+            #[inline]
+            pub fn $message_name(i: &[u8]) -> Read<'_, TlsMessageHandshake<'_>> {
+                let (left, value) = read!($message_read of i, by TlsHandshakeType::$kind.0.into())?;
+                Ok((left, TlsMessageHandshake::$kind(value)))
+            }
+        )*
+    };
 }
 
 bodies! {
-    /// The body of a HelloRequest: any bytes, none of which are taken.
-    parse_tls_handshake_msg_hello_request: HelloRequest;
-    /// Reads the body of a ClientHello, as [`parse_tls_handshake_client_hello`] does.
-    parse_tls_handshake_msg_client_hello: ClientHello;
-    /// Reads the body of a ServerHello, that of draft 18 too.
-    ///
-    /// Refuses: `Incomplete`, `Tag`, `Verify`.
-    parse_tls_handshake_msg_server_hello: ServerHello;
-    /// Reads the body of a HelloRetryRequest.
-    ///
-    /// Refuses: `Incomplete`.
-    parse_tls_handshake_msg_hello_retry_request: HelloRetryRequest;
-    /// Reads the body of a Certificate.
-    ///
-    /// Refuses: `Incomplete`.
-    parse_tls_handshake_msg_certificate: Certificate;
-    /// Reads the body of a CertificateRequest, as [`parse_tls_handshake_certificaterequest`] does.
-    parse_tls_handshake_msg_certificaterequest: CertificateRequest;
-    /// Reads the body of a CertificateStatus, as [`parse_tls_handshake_certificatestatus`] does.
-    parse_tls_handshake_msg_certificatestatus: CertificateStatus;
-    /// Reads the body of a NextProtocol, as [`parse_tls_handshake_next_protocol`] does.
-    parse_tls_handshake_msg_next_protocol: NextProtocol;
-    /// Reads the body of a KeyUpdate: one byte.
-    ///
-    /// Refuses: `Incomplete`.
-    parse_tls_handshake_msg_key_update: KeyUpdate;
+    contents {
+        /// Reads the body of a ClientHello.
+        ///
+        /// # Errors
+        ///
+        /// `Incomplete`, `Verify`, `LengthValue`.
+        parse_tls_handshake_client_hello -> TlsClientHelloContents
+            = client_hello by TlsHandshakeType::ClientHello.0.into();
+        /// Reads the body of a ServerHello, but not of draft 18.
+        ///
+        /// # Errors
+        ///
+        /// `Incomplete`, `Tag`, `Verify`.
+        parse_tls_handshake_server_hello -> TlsServerHelloContents
+            = server_hello by reader::SERVER_HELLO;
+        /// Reads the body of a CertificateRequest: the long form, or else the short one.
+        ///
+        /// # Errors
+        ///
+        /// `Complete`.
+        parse_tls_handshake_certificaterequest -> TlsCertificateRequestContents
+            = certificate_request by TlsHandshakeType::CertificateRequest.0.into();
+        /// Reads the body of a CertificateStatus.
+        ///
+        /// # Errors
+        ///
+        /// `Incomplete`.
+        parse_tls_handshake_certificatestatus -> TlsCertificateStatusContents
+            = certificate_status by TlsHandshakeType::CertificateStatus.0.into();
+        /// Reads the body of a NextProtocol.
+        ///
+        /// # Errors
+        ///
+        /// `Incomplete`.
+        parse_tls_handshake_next_protocol -> TlsNextProtocolContent
+            = next_protocol by TlsHandshakeType::NextProtocol.0.into();
+    }
+    messages {
+        /// Reads the body of a ClientHello, as [`parse_tls_handshake_client_hello`] does.
+        ///
+        /// # Errors
+        ///
+        /// `Incomplete`, `Verify`, `LengthValue`.
+        parse_tls_handshake_msg_client_hello = ClientHello of client_hello;
+        /// Reads the body of a HelloRetryRequest.
+        ///
+        /// # Errors
+        ///
+        /// `Incomplete`.
+        parse_tls_handshake_msg_hello_retry_request = HelloRetryRequest of hello_retry_request;
+        /// Reads the body of a Certificate.
+        ///
+        /// # Errors
+        ///
+        /// `Incomplete`.
+        parse_tls_handshake_msg_certificate = Certificate of certificate;
+        /// Reads the body of a CertificateRequest, as [`parse_tls_handshake_certificaterequest`]
+        /// does.
+        ///
+        /// # Errors
+        ///
+        /// `Complete`.
+        parse_tls_handshake_msg_certificaterequest = CertificateRequest of certificate_request;
+        /// Reads the body of a CertificateStatus, as [`parse_tls_handshake_certificatestatus`]
+        /// does.
+        ///
+        /// # Errors
+        ///
+        /// `Incomplete`.
+        parse_tls_handshake_msg_certificatestatus = CertificateStatus of certificate_status;
+        /// Reads the body of a NextProtocol, as [`parse_tls_handshake_next_protocol`] does.
+        ///
+        /// # Errors
+        ///
+        /// `Incomplete`.
+        parse_tls_handshake_msg_next_protocol = NextProtocol of next_protocol;
+        /// Reads the body of a KeyUpdate: one byte.
+        ///
+        /// # Errors
+        ///
+        /// `Incomplete`.
+        parse_tls_handshake_msg_key_update = KeyUpdate of key_update;
+    }
 }
 
-sized_bodies! {
-    /// Reads the body of a NewSessionTicket, `len` bytes long.
-    ///
-    /// Refuses: `Verify`, where `len` is below 4; `Incomplete`.
-    parse_tls_handshake_msg_newsessionticket: NewSessionTicket;
+/// Reads the body of a ServerHello, that of draft 18 too.
+///
+/// # Errors
+///
+/// `Incomplete`, `Tag`, `Verify`.
+#[inline]
+pub fn parse_tls_handshake_msg_server_hello(i: &[u8]) -> Read<'_, TlsMessageHandshake<'_>> {
+    read!(server_message of i, by TlsHandshakeType::ServerHello.0.into())
+}
+
+/// Takes the body of a HelloRequest: any bytes, none of which are taken.
+///
+/// # Errors
+///
+/// None.
+#[inline]
+pub fn parse_tls_handshake_msg_hello_request(i: &[u8]) -> Read<'_, TlsMessageHandshake<'_>> {
+    Ok((i, TlsMessageHandshake::HelloRequest))
+}
+
+/// Reads the body of a NewSessionTicket, `len` bytes long.
+///
+/// # Errors
+///
+/// `Verify`, where `len` is below 4; `Incomplete`.
+#[inline]
+pub fn parse_tls_handshake_msg_newsessionticket(i: &[u8], len: usize) -> Read<'_, TlsMessageHandshake<'_>> {
+    let told = ffi::sized_ticket(i, len);
+    match told::new_session_ticket(told, i) {
+        Some((left, ticket)) if told.number == 0 => Ok((left, TlsMessageHandshake::NewSessionTicket(ticket))),
+        _ => Err(refused(TlsHandshakeType::NewSessionTicket.0.into(), i, len)),
+    }
+}
+
+/// Readers that take a body whole, by its length.
+macro_rules! whole_bodies {
+    ($($(#[$doc:meta])* $name:ident = $kind:ident;)*) => {$(
+        $(#[$doc])*
+        ///
+        /// # Errors
+        ///
+        /// `Incomplete`.
+        #[inline]
+        pub fn $name(i: &[u8], len: usize) -> Read<'_, TlsMessageHandshake<'_>> {
+            let number = ffi::take_body(i, len);
+            match i.split_at_checked(len) {
+                Some((body, left)) if number == 0 => Ok((left, TlsMessageHandshake::$kind(Whole::whole(body)))),
+                _ => Err(refused(TlsHandshakeType::$kind.0.into(), i, len)),
+            }
+        }
+    )*};
+}
+
+whole_bodies! {
     /// Takes the body of a ServerKeyExchange, `len` bytes.
-    ///
-    /// Refuses: `Incomplete`.
-    parse_tls_handshake_msg_serverkeyexchange: ServerKeyExchange;
+    parse_tls_handshake_msg_serverkeyexchange = ServerKeyExchange;
     /// Takes the body of a ServerDone, `len` bytes.
-    ///
-    /// Refuses: `Incomplete`.
-    parse_tls_handshake_msg_serverdone: ServerDone;
+    parse_tls_handshake_msg_serverdone = ServerDone;
     /// Takes the body of a CertificateVerify, `len` bytes.
-    ///
-    /// Refuses: `Incomplete`.
-    parse_tls_handshake_msg_certificateverify: CertificateVerify;
+    parse_tls_handshake_msg_certificateverify = CertificateVerify;
     /// Takes the body of a ClientKeyExchange, `len` bytes: always `Unknown`.
-    ///
-    /// Refuses: `Incomplete`.
-    parse_tls_handshake_msg_clientkeyexchange: ClientKeyExchange;
+    parse_tls_handshake_msg_clientkeyexchange = ClientKeyExchange;
     /// Takes the body of a Finished, `len` bytes.
-    ///
-    /// Refuses: `Incomplete`.
-    parse_tls_handshake_msg_finished: Finished;
+    parse_tls_handshake_msg_finished = Finished;
 }

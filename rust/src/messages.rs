@@ -1,49 +1,48 @@
 //! The messages of a record's content, one after the other (RULES 6).
 
-use crate::ffi::{self, Block, Lister};
-use crate::handshake::TlsMessageHandshake;
-use crate::refusal::Refusal;
-use crate::table::{TlsHandshakeType, MET_NUMBERS};
-use crate::told::{message, part};
-use std::fmt;
-use std::iter::FusedIterator;
+use crate::ffi::{count_messages, message_head, part};
+use crate::handshake::{TlsMessage, TlsMessageHandshake};
+use crate::refusal::{refused, Refusal};
+use crate::table::{met, reader, TlsHandshakeType, Told, MESSAGE_HEAD_LEN};
+#[cfg(feature = "alloc")]
+use alloc::vec::Vec;
+use core::fmt;
+use core::iter::FusedIterator;
 
-/// The messages of a record's content, until one is refused.
+/// The messages of a record's content, until one is refused; where tls-parser has a `Vec`.
+///
+/// A message is opened when it is handed out, and handed out by value.
+///
+/// ```
+/// use norrabist::{TlsMessage, TlsMessageHandshake, TlsMessages};
+///
+/// let messages = TlsMessages::new(&[0x14, 0, 0, 1, 9, 0, 0, 0, 0]);
+/// let finished = TlsMessage::Handshake(TlsMessageHandshake::Finished(&[9]));
+/// assert_eq!((messages.len(), messages.first()), (2, Some(finished)));
+/// for message in messages {
+///     assert!(matches!(message, TlsMessage::Handshake(_)));
+/// }
+/// ```
 #[derive(Clone, Copy)]
 pub struct TlsMessages<'a> {
     content: &'a [u8],
-    first: Option<First<'a>>,
-}
-
-/// The first message, which the record's reader tells.
-#[derive(Clone, Copy)]
-struct First<'a> {
-    message: TlsMessageHandshake<'a>,
-    body: &'a [u8],
-    /// Where the second begins.
-    next: usize,
-    /// Whether there is none behind it.
-    only: bool,
+    /// The first message, as the record's reader told it.
+    first: Option<Told>,
+    /// Where the messages that are not told begin.
+    at: usize,
 }
 
 impl<'a> TlsMessages<'a> {
     /// The messages that these bytes hold.
     #[inline]
     pub const fn new(content: &'a [u8]) -> Self {
-        TlsMessages { content, first: None }
+        TlsMessages { content, first: None, at: 0 }
     }
 
-    /// The messages of a record that was opened: the first, its body, where the second begins, and
-    /// how many there are.
-    #[inline]
-    pub(crate) fn opened(
-        content: &'a [u8],
-        message: TlsMessageHandshake<'a>,
-        body: &'a [u8],
-        next: usize,
-        count: usize,
-    ) -> Self {
-        TlsMessages { content, first: Some(First { message, body, next, only: count == 1 }) }
+    /// The messages of a record: the first was told, and ends at `at`.
+    #[inline(always)]
+    pub(crate) fn opened(content: &'a [u8], first: Told, at: usize) -> Self {
+        TlsMessages { content, first: Some(first), at }
     }
 
     /// The content of the record.
@@ -53,41 +52,83 @@ impl<'a> TlsMessages<'a> {
     }
 
     /// How many messages there are, by a walk over them.
-    #[inline]
     pub fn len(&self) -> usize {
-        self.heads().count()
+        count_messages(self.content, 0).count
+    }
+
+    /// How many bytes behind the last message are in none.
+    pub(crate) fn dropped(&self) -> usize {
+        self.content.len().saturating_sub(count_messages(self.content, 0).end)
     }
 
     /// Whether there is no message.
     #[inline]
     pub fn is_empty(&self) -> bool {
-        self.heads().next().is_none()
+        self.first.is_none() && self.heads().next().is_none()
     }
 
     /// The messages in their order.
     #[inline]
     pub fn iter(&self) -> Messages<'a> {
-        Messages { first: self.first.map(|first| first.message), heads: self.heads_behind() }
+        Messages { handshakes: self.handshakes() }
+    }
+
+    /// The handshake messages in their order: all that a handshake record has.
+    #[inline]
+    pub fn handshakes(&self) -> Handshakes<'a> {
+        Handshakes { first: self.first, walk: Walk { content: self.content, at: self.at } }
     }
 
     /// The messages by their types and bodies.
     #[inline]
     pub fn heads(&self) -> Heads<'a> {
-        let first =
-            self.first.map(|first| TlsMessageHead { kind: first.message.handshake_type(), body: first.body });
-        Heads { first, ..self.heads_behind() }
+        Heads { walk: Walk { content: self.content, at: 0 } }
     }
 
-    /// The heads of those behind the first, if that is told.
+    /// The first message.
     #[inline]
-    fn heads_behind(&self) -> Heads<'a> {
-        let (from, more) = self.first.map_or((0, true), |first| (first.next, !first.only));
-        Heads { first: None, content: self.content, block: Block::new(from, more) }
+    pub fn first(&self) -> Option<TlsMessage<'a>> {
+        self.iter().next()
+    }
+
+    /// The message at that place, counted from 0. The messages before it are walked over.
+    #[inline]
+    pub fn get(&self, place: usize) -> Option<TlsMessage<'a>> {
+        self.iter().nth(place)
+    }
+
+    /// The last message. All messages are walked over to find it.
+    #[inline]
+    pub fn last(&self) -> Option<TlsMessage<'a>> {
+        self.iter().last()
+    }
+
+    /// The messages in a `Vec`.
+    #[cfg(feature = "alloc")]
+    pub fn to_vec(&self) -> Vec<TlsMessage<'a>> {
+        self.iter().collect()
+    }
+}
+
+#[cfg(feature = "alloc")]
+impl<'a> From<TlsMessages<'a>> for Vec<TlsMessage<'a>> {
+    fn from(messages: TlsMessages<'a>) -> Self {
+        messages.to_vec()
     }
 }
 
 impl<'a> IntoIterator for &TlsMessages<'a> {
-    type Item = TlsMessageHandshake<'a>;
+    type Item = TlsMessage<'a>;
+    type IntoIter = Messages<'a>;
+
+    #[inline]
+    fn into_iter(self) -> Messages<'a> {
+        self.iter()
+    }
+}
+
+impl<'a> IntoIterator for TlsMessages<'a> {
+    type Item = TlsMessage<'a>;
     type IntoIter = Messages<'a>;
 
     #[inline]
@@ -105,7 +146,82 @@ impl fmt::Debug for TlsMessages<'_> {
 /// Equal where the messages are.
 impl PartialEq for TlsMessages<'_> {
     fn eq(&self, other: &Self) -> bool {
-        self.iter().eq(other.iter())
+        self.handshakes().eq(other.handshakes())
+    }
+}
+
+/// Equality with what is a slice of messages.
+macro_rules! equal {
+    ($($(#[$when:meta])* [$($n:tt)*] $of:ty;)*) => {$(
+        /// Equal where the messages are.
+        $(#[$when])*
+        impl<'a, $($n)*> PartialEq<$of> for TlsMessages<'a> {
+            fn eq(&self, other: &$of) -> bool {
+                self.iter().eq(other.iter().copied())
+            }
+        }
+
+        /// Equal where the messages are.
+        $(#[$when])*
+        impl<'a, $($n)*> PartialEq<TlsMessages<'a>> for $of {
+            fn eq(&self, other: &TlsMessages<'a>) -> bool {
+                other == self
+            }
+        }
+    )*};
+}
+
+equal! {
+    [] [TlsMessage<'a>];
+    [] &[TlsMessage<'a>];
+    [const N: usize] [TlsMessage<'a>; N];
+    #[cfg(feature = "alloc")]
+    [] Vec<TlsMessage<'a>>;
+}
+
+/// What is done with a message that is handed on.
+pub(crate) trait Then<'a, B> {
+    /// What comes of it.
+    type Answer;
+
+    /// Takes the message, and what came of those before it.
+    fn then(self, so_far: B, message: TlsMessageHandshake<'a>) -> Self::Answer;
+
+    /// Where the parts of the message do not lie in its body.
+    fn outside(so_far: B) -> Self::Answer;
+}
+
+/// The message by itself.
+pub(crate) struct Alone;
+
+impl<'a> Then<'a, ()> for Alone {
+    type Answer = Option<TlsMessageHandshake<'a>>;
+
+    #[inline(always)]
+    fn then(self, (): (), message: TlsMessageHandshake<'a>) -> Self::Answer {
+        Some(message)
+    }
+
+    #[inline(always)]
+    fn outside((): ()) -> Self::Answer {
+        None
+    }
+}
+
+/// The message folded to those before it; these again, where the walk ends.
+struct Fold<'f, F>(&'f mut F);
+
+impl<'a, B, F: FnMut(B, TlsMessageHandshake<'a>) -> B> Then<'a, B> for Fold<'_, F> {
+    type Answer = Result<B, B>;
+
+    #[inline(always)]
+    fn then(self, so_far: B, message: TlsMessageHandshake<'a>) -> Self::Answer {
+        Ok(self.0(so_far, message))
+    }
+
+    #[inline(always)]
+    fn outside(so_far: B) -> Self::Answer {
+        Err(so_far)
     }
 }
 
@@ -118,26 +234,44 @@ pub struct TlsMessageHead<'a> {
     pub body: &'a [u8],
 }
 
-/// The message of a head that was told, which can be opened.
-#[inline(never)]
-pub(crate) fn opened(kind: TlsHandshakeType, body: &[u8]) -> Option<TlsMessageHandshake<'_>> {
-    message(&ffi::body(kind.0, body, body.len()).ok()?, body).ok()
+/// Walks over the heads of messages, whatever their bodies.
+#[derive(Clone, Copy)]
+struct Walk<'a> {
+    content: &'a [u8],
+    at: usize,
+}
+
+/// What stands at a byte: the type of a message, or that of none; its body, and where the next one
+/// begins.
+struct Met<'a> {
+    met: u16,
+    body: &'a [u8],
+    next: usize,
+}
+
+impl<'a> Walk<'a> {
+    /// What stands at the byte.
+    #[inline(always)]
+    fn meet(&self) -> Option<Met<'a>> {
+        let head = message_head(self.content, self.at);
+        let body = head.body as usize;
+        let body = part(self.content, head.next.wrapping_sub(body), body)?;
+        Some(Met { met: met(head.msg_type, head.number), body, next: head.next })
+    }
+
+    /// The next message, opened; none where it is refused.
+    #[inline(always)]
+    fn open(&self) -> Option<(TlsMessageHandshake<'a>, usize)> {
+        let met = self.meet()?;
+        let message = Told::of(met.met, met.body)?.message(met.body)?;
+        Some((message, met.next))
+    }
 }
 
 /// Hands out messages that are not opened.
 #[derive(Clone)]
 pub struct Heads<'a> {
-    first: Option<TlsMessageHead<'a>>,
-    content: &'a [u8],
-    block: Block<[usize; 3], 16>,
-}
-
-impl<'a> Heads<'a> {
-    #[inline]
-    fn told(&mut self) -> Option<TlsMessageHead<'a>> {
-        let [kind, start, len] = self.block.next_item(Lister::MESSAGES, self.content)?;
-        Some(TlsMessageHead { kind: TlsHandshakeType(kind as u8), body: part(self.content, start, len) })
-    }
+    walk: Walk<'a>,
 }
 
 impl<'a> Iterator for Heads<'a> {
@@ -145,44 +279,107 @@ impl<'a> Iterator for Heads<'a> {
 
     #[inline]
     fn next(&mut self) -> Option<TlsMessageHead<'a>> {
-        match self.first.take() {
-            Some(first) => Some(first),
-            None => self.told(),
-        }
+        let met = self.walk.meet()?;
+        // where head or body is refused, the walk ends
+        let told = Told::of(met.met, met.body)?;
+        self.walk.at = met.next;
+        Some(TlsMessageHead { kind: told.handshake_type(), body: met.body })
+    }
+
+    #[inline]
+    fn count(self) -> usize {
+        count_messages(self.walk.content, self.walk.at).count
     }
 }
 
 impl FusedIterator for Heads<'_> {}
 
-/// Hands out messages.
+/// Hands out handshake messages.
 #[derive(Clone)]
-pub struct Messages<'a> {
-    first: Option<TlsMessageHandshake<'a>>,
-    heads: Heads<'a>,
+pub struct Handshakes<'a> {
+    first: Option<Told>,
+    walk: Walk<'a>,
 }
 
-impl<'a> Iterator for Messages<'a> {
+impl<'a> Handshakes<'a> {
+    /// The body of the first message, which ends where the others begin.
+    #[inline(always)]
+    fn first_body(&self) -> &'a [u8] {
+        self.walk.content.get(MESSAGE_HEAD_LEN as usize..self.walk.at).unwrap_or(&[])
+    }
+}
+
+impl<'a> Iterator for Handshakes<'a> {
     type Item = TlsMessageHandshake<'a>;
 
-    #[inline]
+    #[inline(always)]
     fn next(&mut self) -> Option<TlsMessageHandshake<'a>> {
-        match self.first.take() {
-            Some(first) => Some(first),
-            None => self.heads.told()?.hand_on(None, &mut |_, message| Some(message)),
-        }
+        let (told, body) = match self.first.take() {
+            Some(told) => (told, self.first_body()),
+            None => {
+                let met = self.walk.meet()?;
+                // where head or body is refused, the walk ends
+                let told = Told::of(met.met, met.body)?;
+                self.walk.at = met.next;
+                (told, met.body)
+            }
+        };
+        told.message(body)
     }
 
     // for `for_each`, `sum`, `collect` and their like
     #[inline]
-    fn fold<B, F: FnMut(B, Self::Item) -> B>(mut self, start: B, mut f: F) -> B {
-        let mut folded = match self.first {
-            Some(first) => f(start, first),
-            None => start,
-        };
-        while let Some(head) = self.heads.told() {
-            folded = head.hand_on(folded, &mut f);
+    fn fold<B, F: FnMut(B, Self::Item) -> B>(self, start: B, mut f: F) -> B {
+        let mut folded = start;
+        if let Some(told) = self.first {
+            match told.hand_on(self.first_body(), folded, Fold(&mut f)) {
+                Ok(so_far) => folded = so_far,
+                Err(so_far) => return so_far,
+            }
+        }
+        let mut walk = self.walk;
+        while let Some(met) = walk.meet() {
+            let Some(told) = Told::of(met.met, met.body) else { break };
+            match told.hand_on(met.body, folded, Fold(&mut f)) {
+                Ok(so_far) => folded = so_far,
+                Err(so_far) => return so_far,
+            }
+            walk.at = met.next;
         }
         folded
+    }
+
+    #[inline]
+    fn count(self) -> usize {
+        let behind = count_messages(self.walk.content, self.walk.at).count;
+        behind + usize::from(self.first.is_some())
+    }
+}
+
+impl FusedIterator for Handshakes<'_> {}
+
+/// Hands out messages.
+#[derive(Clone)]
+pub struct Messages<'a> {
+    handshakes: Handshakes<'a>,
+}
+
+impl<'a> Iterator for Messages<'a> {
+    type Item = TlsMessage<'a>;
+
+    #[inline(always)]
+    fn next(&mut self) -> Option<TlsMessage<'a>> {
+        self.handshakes.next().map(TlsMessage::Handshake)
+    }
+
+    #[inline]
+    fn fold<B, F: FnMut(B, Self::Item) -> B>(self, start: B, mut f: F) -> B {
+        self.handshakes.fold(start, |folded, message| f(folded, TlsMessage::Handshake(message)))
+    }
+
+    #[inline]
+    fn count(self) -> usize {
+        self.handshakes.count()
     }
 }
 
@@ -191,9 +388,11 @@ impl FusedIterator for Messages<'_> {}
 /// The message that begins at byte `at` of a record's content, and the byte at which the next one
 /// begins.
 ///
-/// Refuses: `NoSuch`, where none that can be opened begins there.
+/// # Errors
+///
+/// `NoSuch`, where none that can be opened begins there.
 #[inline]
 pub fn record_walk_next(content: &[u8], at: usize) -> Result<(TlsMessageHandshake<'_>, usize), Refusal> {
-    let [start, len, next, told @ ..] = ffi::walk_next::<MET_NUMBERS>(content, at)?;
-    Ok((message(&told, part(content, start, len))?, next))
+    let walk = Walk { content, at };
+    walk.open().ok_or_else(|| refused(reader::WALK, content, at))
 }

@@ -1,13 +1,13 @@
 //! Records (RULES 6).
 
-use crate::ffi::Reader;
+use crate::ffi::{self, cut, RecordHeadTold};
 use crate::messages::TlsMessages;
-use crate::table::{TlsRecordType, TlsVersion, OPENED_NUMBERS, RECORD_HEADER_LEN};
-use crate::told::{message, part, rest};
+use crate::refusal::refused;
+use crate::table::{reader, TlsRecordType, TlsVersion, Told, MESSAGE_HEAD_LEN, RECORD_HEADER_LEN};
 use crate::Read;
 
 /// The five bytes before a record's content.
-#[derive(Clone, Copy, Debug, PartialEq, Eq)]
+#[derive(Clone, Copy, PartialEq, Eq)]
 pub struct TlsRecordHeader {
     /// What the content is.
     pub record_type: TlsRecordType,
@@ -43,80 +43,105 @@ pub struct TlsEncrypted<'a> {
 }
 
 /// A handshake record, opened.
-#[derive(Clone, Copy, Debug, PartialEq)]
+#[derive(Clone, Copy, PartialEq)]
 pub struct TlsPlaintext<'a> {
     /// Type, version and length.
     pub hdr: TlsRecordHeader,
     /// The messages, at least one.
     pub msg: TlsMessages<'a>,
-    count: usize,
-    dropped: usize,
 }
 
 impl TlsPlaintext<'_> {
-    /// How many messages there are, without a walk over them.
+    /// How many messages there are, by a walk over them.
     pub fn count(&self) -> usize {
-        self.count
+        self.msg.len()
     }
 
-    /// How many bytes at the end of the content hold no message that can be opened.
+    /// How many bytes at the end of the content hold no message that can be opened, by a walk over
+    /// those that can.
     pub fn dropped(&self) -> usize {
-        self.dropped
-    }
-}
-
-#[inline]
-fn header(record_type: usize, version: usize, len: usize) -> TlsRecordHeader {
-    TlsRecordHeader {
-        record_type: TlsRecordType(record_type as u8),
-        version: TlsVersion(version as u16),
-        len: len as u16,
+        self.msg.dropped()
     }
 }
 
 /// Reads a record's header; the rest begins with the content.
 ///
-/// Refuses: `Incomplete`.
+/// # Errors
+///
+/// `Incomplete`.
 #[inline]
 pub fn parse_tls_record_header(i: &[u8]) -> Read<'_, TlsRecordHeader> {
-    let [record_type, version, len] = Reader::RECORD_HEADER.read(i)?;
-    Ok((rest(i, RECORD_HEADER_LEN), header(record_type, version, len)))
+    let told = ffi::record_header(i);
+    match cut(i, [RECORD_HEADER_LEN]) {
+        Some((_, rest)) if told.number == 0 => Ok((rest, header(told))),
+        _ => Err(refused(reader::RECORD_HEADER, i, 0)),
+    }
+}
+
+#[inline(always)]
+fn header(told: RecordHeadTold) -> TlsRecordHeader {
+    TlsRecordHeader {
+        record_type: TlsRecordType(told.record_type),
+        version: TlsVersion(told.version),
+        len: told.len,
+    }
 }
 
 /// Reads a record of any type.
 ///
-/// Refuses: `Incomplete`, `TooLarge`.
+/// # Errors
+///
+/// `Incomplete`, `TooLarge`.
 #[inline]
 pub fn parse_tls_raw_record(i: &[u8]) -> Read<'_, TlsRawRecord<'_>> {
-    let [record_type, version, len, data, data_len, next] = Reader::RAW_RECORD.read(i)?;
-    Ok((
-        rest(i, next),
-        TlsRawRecord { hdr: header(record_type, version, len), data: part(i, data, data_len) },
-    ))
+    let told = ffi::raw_record(i);
+    match cut(i, [RECORD_HEADER_LEN, told.len.into()]) {
+        Some(([_, data], rest)) if told.number == 0 => Ok((rest, TlsRawRecord { hdr: header(told), data })),
+        _ => Err(refused(reader::RAW_RECORD, i, 0)),
+    }
 }
 
 /// Reads a record of any type whose content is encrypted.
 ///
-/// Refuses: `Incomplete`, `TooLarge`.
+/// # Errors
+///
+/// `Incomplete`, `TooLarge`.
 #[inline]
 pub fn parse_tls_encrypted(i: &[u8]) -> Read<'_, TlsEncrypted<'_>> {
-    let [record_type, version, len, blob, blob_len, next] = Reader::ENCRYPTED.read(i)?;
-    let msg = TlsEncryptedContent { blob: part(i, blob, blob_len) };
-    Ok((rest(i, next), TlsEncrypted { hdr: header(record_type, version, len), msg }))
+    let (rest, record) = parse_tls_raw_record(i)?;
+    Ok((rest, TlsEncrypted { hdr: record.hdr, msg: TlsEncryptedContent { blob: record.data } }))
 }
 
-/// Reads a handshake record and opens its messages: at least the first.
+/// Reads a handshake record and its first message. The messages behind it are opened when they are
+/// looked at, up to the first that is refused.
 ///
-/// Refuses: `Incomplete`, `TooLarge`, `Elsewhere`, `Switch`; `Complete` where the first message is
+/// # Errors
+///
+/// `Incomplete`, `TooLarge`, `Elsewhere`, `Switch`; `Complete` where the first message is
 /// incomplete, else that message's refusal.
 #[inline]
 pub fn parse_tls_plaintext(i: &[u8]) -> Read<'_, TlsPlaintext<'_>> {
-    let [record_type, version, len, msg, msg_len, count, dropped, next, told @ ..] =
-        Reader::OPENED.read::<OPENED_NUMBERS>(i)?;
-    let [body, body_len, second, told @ ..] = told;
-    let content = part(i, msg, msg_len);
-    let body = part(content, body, body_len);
-    let first = message(&told, body)?;
-    let msg = TlsMessages::opened(content, first, body, second, count);
-    Ok((rest(i, next), TlsPlaintext { hdr: header(record_type, version, len), msg, count, dropped }))
+    match opened(i) {
+        Some(read) => Ok(read),
+        None => Err(refused(reader::PLAINTEXT, i, 0)),
+    }
+}
+
+/// A record whose first message is told; none where either is refused.
+#[inline(always)]
+fn opened(i: &[u8]) -> Option<(&[u8], TlsPlaintext<'_>)> {
+    let told = ffi::plaintext(i);
+    if told.number != 0 {
+        return None;
+    }
+    let ([_, content], rest) = cut(i, [RECORD_HEADER_LEN, told.len.into()])?;
+    let ([head, body], _) = cut(content, [MESSAGE_HEAD_LEN, told.body.into()])?;
+    let first = Told::of(told.msg_type.into(), body)?;
+    let hdr = TlsRecordHeader {
+        record_type: TlsRecordType::Handshake,
+        version: TlsVersion(told.version),
+        len: told.len,
+    };
+    let msg = TlsMessages::opened(content, first, head.len() + body.len());
+    Some((rest, TlsPlaintext { hdr, msg }))
 }

@@ -1,43 +1,50 @@
-//! The numbers of the wire, each once: record types, versions, handshake types and limits; and for
-//! each kind of handshake message the numbers by which the archive tells it.
+//! The numbers of the wire, each once: record types, versions, handshake types and limits; and the
+//! kinds of handshake messages.
 //!
-//! Reading (`told.rs`), writing (`write.rs`) and `TlsMessageHandshake::handshake_type` are made of
-//! the table of kinds at the end, by `kinds.rs`. The names are tls-parser's.
+//! Reading and `TlsMessageHandshake::handshake_type` are made of the table of kinds at the end, by
+//! `kinds.rs`. The names are tls-parser's.
 
+use crate::ffi;
 use crate::handshake::*;
-use crate::kinds::{contents, kinds};
-use crate::messages::{opened, TlsMessageHead};
-use crate::newtypes::newtype;
-use crate::told::{Row, Told, Whole};
-use crate::write::{Gathered, Said};
+use crate::kinds::kinds;
+use crate::messages::{Alone, Then};
+use crate::newtypes::{newtype, transparent};
+use crate::told::{self, Whole};
 
 /// The longest content that a record may have (RULES 6).
 pub const MAX_RECORD_LEN: u16 = (1 << 14) + 256;
 
 /// The bytes before a record's content: type, version and length.
-pub(crate) const RECORD_HEADER_LEN: usize = 5;
+pub(crate) const RECORD_HEADER_LEN: u32 = 5;
 
-/// The longest body that a message can announce, in three bytes.
-pub(crate) const MAX_BODY_LEN: usize = 0xff_ffff;
+/// The bytes before a message's body: type and length.
+pub(crate) const MESSAGE_HEAD_LEN: u32 = 4;
 
-/// Room for the numbers of any message (`NORRABIST_MESSAGE_NUMBERS`).
-pub(crate) const MESSAGE_NUMBERS: usize = 15;
-
-/// Room for these and, before them, where the body lies and the next message begins
-/// (`NORRABIST_MET_NUMBERS`).
-pub(crate) const MET_NUMBERS: usize = 3 + MESSAGE_NUMBERS;
-
-/// Room for these and, before them, the numbers of a record (`NORRABIST_OPENED_NUMBERS`).
-pub(crate) const OPENED_NUMBERS: usize = 8 + MET_NUMBERS;
-
-/// The forms of a ClientKeyExchange, of which a reader tells the first alone.
+/// The forms in which a ClientKeyExchange is written.
 pub(crate) mod form {
     /// The whole body.
-    pub const UNKNOWN: usize = 0;
-    /// Diffie-Hellman, written behind a length of 2 bytes.
-    pub const DH: usize = 1;
-    /// Elliptic curve, written behind a length of 1 byte.
-    pub const ECDH: usize = 2;
+    pub const UNKNOWN: u8 = 0;
+    /// Diffie-Hellman, behind a length of 2 bytes.
+    pub const DH: u8 = 1;
+    /// Elliptic curve, behind a length of 1 byte.
+    pub const ECDH: u8 = 2;
+}
+
+/// The readers that can tell why they refuse; below these, the number of a handshake type is the
+/// reader of such a body.
+pub(crate) mod reader {
+    /// The header of a record.
+    pub const RECORD_HEADER: u16 = 0x0100;
+    /// A record of any type.
+    pub const RAW_RECORD: u16 = 0x0101;
+    /// A handshake record.
+    pub const PLAINTEXT: u16 = 0x0102;
+    /// The message that begins at a byte.
+    pub const MESSAGE: u16 = 0x0103;
+    /// The walk over a content, at a byte.
+    pub const WALK: u16 = 0x0104;
+    /// The body of a ServerHello, but not of draft 18.
+    pub const SERVER_HELLO: u16 = 0x0105;
 }
 
 newtype! {
@@ -80,9 +87,16 @@ newtype! {
 }
 
 newtype! {
-    /// A cipher suite. Its name is not looked up.
-    TlsCipherSuiteID(u16) {
-    }
+    number
+    /// A cipher suite. `Debug` prints its name too, `0x1301(TLS_AES_128_GCM_SHA256)`, or that it
+    /// has none, `0xfafa(Unknown cipher)`; `Display` prints the number in decimal, as tls-parser
+    /// does.
+    TlsCipherSuiteID(u16)
+}
+
+transparent! {
+    TlsCompressionID(u8);
+    TlsCipherSuiteID(u16);
 }
 
 newtype! {
@@ -93,18 +107,14 @@ newtype! {
     }
 }
 
-// The kinds. Each has its type as its number; one that shares its type has the number of a version.
-//
-// Behind the kind, numbers tell the fields, in their order: a number by itself, a part by its start
-// and length, an optional part by 1 or 0 before these. `; tail` is the field of what follows the
-// others, `; ..` says that its start is told and the value has no such field.
+// The kinds of handshake messages, by their types on the wire.
 kinds! {
-    // no numbers: any body is taken, and nothing of it
+    // any body is taken, and nothing of it
     nothing {
         HelloRequest = 0x00;
         EndOfEarlyData = 0x05;
     }
-    // the whole body, behind its form in a ClientKeyExchange
+    // the value is the whole body
     body {
         ServerKeyExchange = 0x0c;
         ServerDone = 0x0e;
@@ -112,24 +122,21 @@ kinds! {
         ClientKeyExchange = 0x10;
         Finished = 0x14;
     }
-    // the first byte of the body
-    byte {
-        KeyUpdate = 0x18;
-    }
+    // the body has fields: `ffi.rs` has its reader, `told.rs` makes the value of what that tells
     fields {
-        ClientHello = 0x01, TlsClientHelloContents { version random session_id ciphers comp ext; tail };
-        ServerHello = 0x02, TlsServerHelloContents { version random session_id cipher compression ext; tail };
-        NewSessionTicket = 0x04, TlsNewSessionTicketContent { ticket_lifetime_hint ticket; .. };
-        HelloRetryRequest = 0x06, TlsHelloRetryRequestContents { version cipher ext; tail };
-        Certificate = 0x0b, TlsCertificateContents { cert_chain; .. };
-        CertificateRequest = 0x0d, TlsCertificateRequestContents { cert_types sig_hash_algs unparsed_ca; .. };
-        CertificateStatus = 0x16, TlsCertificateStatusContents { status_type blob; .. };
-        NextProtocol = 0x43, TlsNextProtocolContent { selected_protocol padding; .. };
+        ClientHello = 0x01, client_hello as ClientHelloTold;
+        NewSessionTicket = 0x04, new_session_ticket as NewSessionTicketTold;
+        HelloRetryRequest = 0x06, hello_retry_request as HelloRetryRequestTold;
+        Certificate = 0x0b, certificate as CertificateTold;
+        CertificateRequest = 0x0d, certificate_request as CertificateRequestTold;
+        CertificateStatus = 0x16, certificate_status as CertificateStatusTold;
+        KeyUpdate = 0x18, key_update as KeyUpdateTold;
+        NextProtocol = 0x43, next_protocol as NextProtocolTold;
     }
-    // a kind that shares its type, and is told by its version
+    // two kinds share a type: a version tells the second
     shared {
-        ServerHelloV13Draft18 = Tls13Draft18 of ServerHello,
-            TlsServerHelloV13Draft18Contents { version random cipher ext; tail };
+        ServerHello by server_hello, ServerHelloV13Draft18 by draft_18 at Tls13Draft18
+            = 0x02, server_message as ServerHelloTold;
     }
     // types that are not opened
     unread {

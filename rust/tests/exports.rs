@@ -1,67 +1,39 @@
-//! `norrabist.h` and the Rust binding declare what the archive exports, by the same names and
-//! types, and have the same numbers for types, versions and limits.
+//! The Rust binding declares what the archive exports, by the same names and types, and has the
+//! numbers of `norrabist.h` for types, versions and limits.
+
+#[path = "support/rattle.rs"]
+mod rattle;
 
 use norrabist::*;
+use rattle::{text, Typed};
 use std::path::Path;
 
 const HERE: &str = env!("CARGO_MANIFEST_DIR");
 
-/// The exports with their contracts.
-const EXPORTS: &str = "../crates/norrabist_c/src";
-
-/// The same types in Rattle, in Rust and in C. A slice is a pointer and a length.
-const TYPES: [(&str, &str, &str); 9] = [
-    ("&[u8]", "*const u8", "const uint8_t *"),
-    ("&[usize]", "*const usize", "const size_t *"),
-    ("&mut [u8]", "*mut u8", "uint8_t *"),
-    ("&mut [u16]", "*mut u16", "uint16_t *"),
-    ("&mut [usize]", "*mut usize", "size_t *"),
-    ("&mut usize", "*mut usize", "size_t *"),
-    ("u8", "u8", "uint8_t "),
-    ("u16", "u16", "uint16_t "),
-    ("usize", "usize", "size_t "),
-];
-
-fn c_type(of: &str) -> &'static str {
-    let known = TYPES.iter().find(|(rattle, rust, _)| *rattle == of || *rust == of);
-    known.unwrap_or_else(|| panic!("the type {of}")).2
+/// `i: *const u8, i_len: usize` of `i: &[u8]`.
+fn parameter((name, of): &Typed) -> String {
+    match of.as_str() {
+        "&[u8]" => format!("{name}: *const u8, {name}_len: usize"),
+        "&mut [u8]" => format!("{name}: *mut u8, {name}_len: usize"),
+        _ => format!("{name}: {of}"),
+    }
 }
 
-/// `const uint8_t *i, size_t i_len` of `i: &[u8]`.
-fn parameter(text: &str) -> String {
-    let (name, of) = text.split_once(": ").expect("a type");
-    let length = if of.ends_with(']') { format!(", size_t {name}_len") } else { String::new() };
-    format!("{}{name}{length}", c_type(of))
+/// All of a list, one behind the other.
+fn joined(list: &[Typed]) -> String {
+    list.iter().map(parameter).collect::<Vec<_>>().join(", ")
 }
 
-/// The declaration in C of `name(i: &[u8], ..) -> u8` and what may follow.
-fn in_c(function: &str) -> String {
-    let (name, rest) = function.split_once('(').expect("parameters");
-    let (parameters, rest) = rest.split_once(") -> ").expect("a result");
-    let result = rest.split([' ', ';', '\n']).next().unwrap_or(rest);
-    let parameters: Vec<String> =
-        parameters.split(',').map(str::trim).filter(|p| !p.is_empty()).map(parameter).collect();
-    format!("{}{name}({})", c_type(result), parameters.join(", "))
-}
-
-fn declarations(text: &str, before: &str) -> Vec<String> {
-    sorted(text.split(before).skip(1).map(in_c).collect())
+/// What stands in a file of the binding behind each `before`, up to `end`, each blank one space.
+fn declared(file: &str, before: &str, end: char) -> Vec<String> {
+    let text = text(&Path::new(HERE).join(file));
+    let pieces = text.split(before).skip(1).map(|piece| piece.split(end).next().unwrap_or(piece));
+    sorted(pieces.map(|piece| piece.split_whitespace().collect::<Vec<_>>().join(" ")).collect())
 }
 
 fn sorted(mut all: Vec<String>) -> Vec<String> {
     all.sort();
     all
-}
-
-fn text(path: &Path) -> String {
-    std::fs::read_to_string(path).unwrap_or_else(|e| panic!("{}: {e}", path.display()))
-}
-
-fn exports() -> Vec<String> {
-    let folder = Path::new(HERE).join(EXPORTS);
-    let files = std::fs::read_dir(&folder).unwrap_or_else(|e| panic!("{}: {e}", folder.display()));
-    let all: String = files.map(|file| text(&file.expect("a file").path())).collect();
-    declarations(&all, "pub extern \"C\" fn ")
 }
 
 fn header() -> String {
@@ -96,33 +68,47 @@ fn has(of: &str, known: Vec<u16>, name: impl Fn(u16) -> String) {
 }
 
 /// The numbers that a reader knows: those that it does not refuse so.
-fn known(most: u16, unknown: Refusal, refused: impl Fn(u16) -> Option<Refusal>) -> Vec<u16> {
-    (0..=most).filter(|n| refused(*n) != Some(unknown)).collect()
+fn known(most: u16, unknown: Reason, refused: impl Fn(u16) -> Option<Refusal>) -> Vec<u16> {
+    (0..=most).filter(|n| refused(*n).is_none_or(|refusal| refusal.reason != unknown)).collect()
 }
 
 #[test]
 fn the_header_has_the_numbers_of_the_binding() {
-    let records = known(0xff, Refusal::Switch, |n| parse_tls_plaintext(&[n as u8, 0, 0, 0, 0]).err());
+    let records = known(0xff, Reason::Switch, |n| parse_tls_plaintext(&[n as u8, 0, 0, 0, 0]).err());
     has("record_type", records, |n| TlsRecordType(n as u8).to_string());
     let versions =
-        known(0xffff, Refusal::Tag, |n| parse_tls_handshake_msg_server_hello(&n.to_be_bytes()).err());
+        known(0xffff, Reason::Tag, |n| parse_tls_handshake_msg_server_hello(&n.to_be_bytes()).err());
     has("version", versions, |n| TlsVersion(n).to_string());
-    let kinds = known(0xff, Refusal::Switch, |n| parse_tls_message_handshake(&[n as u8, 0, 0, 0]).err());
+    let kinds = known(0xff, Reason::Switch, |n| parse_tls_message_handshake(&[n as u8, 0, 0, 0]).err());
     has("kind", kinds, |n| TlsHandshakeType(n as u8).to_string());
     assert!(numbers(&header()).contains(&("MAX_RECORD_LEN", MAX_RECORD_LEN.into())));
 }
 
 #[test]
-fn the_header_declares_the_exports() {
-    let header = header();
-    // declarations are what ends with `);` and stands behind a comment
-    let declared = header.split(");").filter_map(|d| d.rsplit_once("*/\n"));
-    let declared = declared.map(|(_, d)| d.split_whitespace().collect::<Vec<_>>().join(" ") + ")");
-    let declared = declared.map(|d| d.replace("( ", "("));
-    assert_eq!(sorted(declared.filter(|d| d.contains(" norrabist_")).collect()), exports());
+fn the_binding_declares_the_exports() {
+    let exports = rattle::exports().into_iter();
+    let exports = exports.map(|e| format!("{}({}) -> {}", e.name, joined(&e.parameters), e.answer));
+    let declared = declared("src/ffi.rs", "    fn norrabist_", ';').into_iter();
+    assert_eq!(declared.map(|d| format!("norrabist_{d}")).collect::<Vec<_>>(), sorted(exports.collect()));
 }
 
 #[test]
-fn the_binding_declares_the_exports() {
-    assert_eq!(declarations(&text(&Path::new(HERE).join("src/ffi.rs")), "    fn "), exports());
+fn the_binding_has_the_structs_of_the_exports() {
+    let told = rattle::told().into_iter().map(|t| format!("{} {{ {},", t.name, joined(&t.fields)));
+    assert_eq!(declared("src/ffi/told.rs", "    struct ", '}'), sorted(told.collect()));
+}
+
+/// The sizes to which the binding holds its structs are those of the header.
+#[test]
+fn the_binding_has_the_sizes_of_the_header() {
+    let header = header();
+    let rows = header.lines().filter_map(|line| line.strip_prefix("NORRABIST_HAS_SIZE(norrabist_"));
+    let rows = rows.filter_map(|row| row.strip_suffix(");")?.split_once(", "));
+    let told = text(&Path::new(HERE).join("src/ffi/told.rs"));
+    let (_, sizes) = told.split_once("sizes! {").expect("the sizes");
+    let sizes = sizes.lines().filter_map(|line| line.trim().strip_suffix(';')?.split_once(" is "));
+    let sizes = sizes.map(|(name, size)| format!("{} {size}", in_capitals(name).to_lowercase()));
+    let of_header = rows.map(|(name, size)| format!("{name} {size}"));
+    let of_header = sorted(of_header.collect());
+    assert_eq!((of_header.len(), sorted(sizes.collect())), (rattle::told().len(), of_header));
 }

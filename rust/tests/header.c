@@ -1,32 +1,310 @@
-/* Reads a ClientHello whose extension block is cut off and prints its numbers and ciphers, then
-   writes it back. */
+/* Calls every function of norrabist.h, in C and in C++, and holds each number and each sum to the
+   bytes. Prints what does not hold, then how many facts do. */
 #include "norrabist.h"
 #include <stdio.h>
 #include <string.h>
 
-int main(void) {
-    uint8_t body[45] = {NORRABIST_TLS12 >> 8, NORRABIST_TLS12 & 0xff};
-    const uint8_t behind[11] = {0, 0, 4, 0xc0, 0x2c, 0, 0x9c, 1, 0, 0, 9};
-    uint8_t text[64];
-    uint16_t ciphers[8];
-    size_t numbers[NORRABIST_MESSAGE_NUMBERS];
-    size_t k, told, count = 0;
+static unsigned held, failed;
 
-    memcpy(body + 34, behind, sizeof behind);
-    if (norrabist_parse_tls_handshake_client_hello(body, sizeof body, numbers,
-                                                   NORRABIST_MESSAGE_NUMBERS) != NORRABIST_ACCEPTED)
-        return 1;
-    if (numbers[0] != NORRABIST_CLIENT_HELLO || numbers[1] != NORRABIST_TLS12)
-        return 3;
-    for (k = 2; k < NORRABIST_MESSAGE_NUMBERS; k++)
-        printf("%zu ", numbers[k]);
-    told = norrabist_numbers(body + numbers[7], numbers[8], 0, ciphers, 8);
-    for (k = 0; k < told; k++)
-        printf("| %04x ", (unsigned)ciphers[k]);
-    if (norrabist_gen_tls_messagehandshake(numbers, NORRABIST_MESSAGE_NUMBERS, body, sizeof body, text,
-                                           sizeof text, &count) != NORRABIST_ACCEPTED)
-        return 2;
-    printf("| %zu bytes | %d\n", count,
-           norrabist_parse_tls_handshake_client_hello(body, 1, numbers, NORRABIST_MESSAGE_NUMBERS));
-    return 0;
+#define HOLDS(fact) holds(fact, __LINE__, #fact)
+
+static void holds(int is, int line, const char *fact) {
+    if (is) {
+        held++;
+    } else {
+        failed++;
+        printf("line %d: %s\n", line, fact);
+    }
+}
+
+/* What a hello begins with. */
+#define RANDOM                                                                                     \
+    0, 1, 2, 3, 4, 5, 6, 7, 8, 9, 10, 11, 12, 13, 14, 15, 16, 17, 18, 19, 20, 21, 22, 23, 24, 25,  \
+        26, 27, 28, 29, 30, 31
+
+/* A handshake record of two messages, ClientHello and HelloRequest, with 3 bytes behind them; the
+   hello has an extension block that is cut off. */
+static const uint8_t FLIGHT[] = {
+    0x16, 3, 1, 0, 59, 0x01, 0, 0, 48, 3, 3, RANDOM, 2, 0xaa, 0xbb, 0, 4, 0xc0, 0x2c, 0,
+    0x9c, 2, 0, 1, 0, 9, 0x00, 0, 0, 0, 0x01, 0, 0};
+
+static void numbers(void) {
+    static const char *const names[] = {
+        "accepted", "Incomplete", "Complete", "Verify", "LengthValue", "Tag", "Switch", "TooLarge",
+        "BadLength", "NoRoom", "Elsewhere", "NoSuch", "NotYetImplemented", "unknown"};
+    uint8_t number;
+
+    for (number = 0; number <= NORRABIST_NOT_YET_IMPLEMENTED + 1; number++)
+        HOLDS(strcmp(norrabist_reason_name(number), names[number]) == 0);
+    HOLDS(strcmp(norrabist_reason_name(0xff), "unknown") == 0);
+    HOLDS(NORRABIST_MAX_CLIENT_HELLO_LEN ==
+          NORRABIST_ID_AT + NORRABIST_MAX_ID_LEN + 2 + NORRABIST_MAX_CIPHERS_LEN + 1 +
+              NORRABIST_MAX_METHODS_LEN + 2 + NORRABIST_MAX_EXT_LEN);
+}
+
+static void records(void) {
+    static const uint8_t large[] = {0x16, 3, 1, 0x41, 0x01}, alert[] = {0x15, 3, 3, 0, 2, 1, 0};
+    static const uint8_t cut[] = {0x16, 3, 3, 0, 5, 0x01, 0, 0, 1, 3};
+    norrabist_record_head_told header = norrabist_parse_tls_record_header(large, sizeof large);
+    norrabist_record_head_told raw = norrabist_parse_tls_raw_record(FLIGHT, sizeof FLIGHT);
+    norrabist_plaintext_head_told opened = norrabist_parse_tls_plaintext(FLIGHT, sizeof FLIGHT);
+
+    HOLDS(header.number == NORRABIST_ACCEPTED && header.record_type == NORRABIST_HANDSHAKE);
+    HOLDS(header.version == NORRABIST_TLS10 && header.len == NORRABIST_MAX_RECORD_LEN + 1);
+    HOLDS(norrabist_parse_tls_record_header(large, 4).number == NORRABIST_INCOMPLETE);
+    HOLDS(norrabist_parse_tls_record_header(large, 4).version == 0);
+    HOLDS(norrabist_parse_tls_raw_record(large, sizeof large).number == NORRABIST_TOO_LARGE);
+    HOLDS(raw.number == NORRABIST_ACCEPTED && raw.record_type == NORRABIST_HANDSHAKE);
+    HOLDS(norrabist_record_head_next(raw) == sizeof FLIGHT);
+    HOLDS(opened.number == NORRABIST_ACCEPTED && opened.version == NORRABIST_TLS10);
+    HOLDS(norrabist_plaintext_head_next(opened) == sizeof FLIGHT);
+    HOLDS(opened.msg_type == NORRABIST_CLIENT_HELLO && opened.body == 48);
+    HOLDS(norrabist_parse_tls_plaintext(alert, sizeof alert).number == NORRABIST_ELSEWHERE);
+    /* the first message's body is refused: the record is, with COMPLETE */
+    HOLDS(norrabist_parse_tls_plaintext(cut, sizeof cut).number == NORRABIST_ACCEPTED);
+    HOLDS(norrabist_refusal(NORRABIST_READER_PLAINTEXT, cut, sizeof cut, 0).number ==
+          NORRABIST_COMPLETE);
+}
+
+static void messages(void) {
+    const uint8_t *content = FLIGHT + NORRABIST_RECORD_HEADER_LEN;
+    const size_t len = sizeof FLIGHT - NORRABIST_RECORD_HEADER_LEN;
+    norrabist_message_head_told first = norrabist_parse_tls_message_head(content, len, 0);
+    norrabist_message_head_told second =
+        norrabist_parse_tls_message_head(content, len, first.next);
+    norrabist_tally_told tally = norrabist_count_messages(content, len, 0);
+    static const uint8_t unlisted[] = {0x03, 0, 0, 0};
+
+    HOLDS(first.number == NORRABIST_ACCEPTED && first.msg_type == NORRABIST_CLIENT_HELLO);
+    HOLDS(norrabist_message_head_body(first) == NORRABIST_MESSAGE_HEAD_LEN && first.body == 48);
+    HOLDS(NORRABIST_RECORD_HEADER_LEN + NORRABIST_MESSAGE_HEAD_LEN == NORRABIST_FIRST_BODY_AT);
+    HOLDS(second.number == NORRABIST_ACCEPTED && second.msg_type == NORRABIST_HELLO_REQUEST);
+    HOLDS(norrabist_message_head_body(second) == second.next);
+    HOLDS(norrabist_parse_tls_message_head(content, len, second.next).number ==
+          NORRABIST_INCOMPLETE);
+    HOLDS(norrabist_parse_tls_message_head(unlisted, 4, 0).number == NORRABIST_SWITCH);
+    HOLDS(tally.count == 2 && tally.end == second.next && len - tally.end == 3);
+    HOLDS(norrabist_count_messages(content, len, first.next).count == 1);
+    HOLDS(norrabist_count_messages(content, len, len + 9).end == len + 9);
+}
+
+static void client_hello(void) {
+    const uint8_t *body = FLIGHT + NORRABIST_FIRST_BODY_AT;
+    uint8_t whole[52];
+    norrabist_client_hello_told cut = norrabist_parse_tls_handshake_client_hello(body, 48), all;
+
+    HOLDS(cut.number == NORRABIST_ACCEPTED && cut.version == NORRABIST_TLS12);
+    HOLDS(body[NORRABIST_RANDOM_AT + NORRABIST_RANDOM_LEN] == cut.session_id);
+    HOLDS(cut.session_id == 2 && body[NORRABIST_ID_AT] == 0xaa);
+    HOLDS(cut.ciphers == 4 && body[norrabist_client_hello_ciphers(cut)] == 0xc0);
+    HOLDS(cut.comp == 2 && body[norrabist_client_hello_comp(cut)] == 0);
+    HOLDS(!cut.has_ext && cut.ext == 0);
+    HOLDS(norrabist_client_hello_end(cut) == 46 && norrabist_client_hello_tail(cut) == 46);
+    memcpy(whole, body, 46);
+    memcpy(whole + 46, "\0\2\5\6\7\10", 6);
+    all = norrabist_parse_tls_handshake_client_hello(whole, sizeof whole);
+    HOLDS(all.has_ext && all.ext == 2 && whole[norrabist_client_hello_ext(all)] == 5);
+    HOLDS(norrabist_client_hello_tail(all) == 50);
+    HOLDS(norrabist_parse_tls_handshake_client_hello(body, 1).number == NORRABIST_INCOMPLETE);
+    HOLDS(norrabist_parse_tls_handshake_client_hello(body, 42).number == NORRABIST_LENGTH_VALUE);
+}
+
+static void server_hello(void) {
+    static const uint8_t body[] = {3, 3, RANDOM, 1, 0xaa, 0xc0, 0x2c, 7, 0, 1, 0xee, 0xdd};
+    static const uint8_t draft18[] = {0x7f, 0x12, RANDOM, 0x13, 0x01, 0, 1, 0xee, 0xdd};
+    static const uint8_t retry[] = {3, 4, 0x13, 0x01, 0, 1, 0xee, 0xdd};
+    norrabist_server_hello_told told =
+        norrabist_parse_tls_handshake_server_hello(body, sizeof body);
+    norrabist_server_hello_told drafted =
+        norrabist_parse_tls_handshake_msg_server_hello(draft18, sizeof draft18);
+    norrabist_hello_retry_request_told asked =
+        norrabist_parse_tls_handshake_msg_hello_retry_request(retry, sizeof retry);
+
+    HOLDS(told.number == NORRABIST_ACCEPTED && told.version == NORRABIST_TLS12);
+    HOLDS(told.session_id == 1 && body[NORRABIST_ID_AT] == 0xaa);
+    HOLDS(told.cipher == 0xc02c && told.compression == 7 && told.has_ext && told.ext == 1);
+    HOLDS(norrabist_server_hello_end(told) == 39 && norrabist_server_hello_tail(told) == 42);
+    HOLDS(body[norrabist_server_hello_ext(told)] == 0xee);
+    told = norrabist_parse_tls_handshake_msg_server_hello(body, 41);
+    HOLDS(told.number == NORRABIST_ACCEPTED && !told.has_ext);
+    HOLDS(norrabist_server_hello_tail(told) == 39);
+    HOLDS(drafted.number == NORRABIST_ACCEPTED && drafted.version == NORRABIST_TLS13_DRAFT18);
+    HOLDS(drafted.cipher == 0x1301 && drafted.ext == 1 && drafted.session_id == 0);
+    HOLDS(norrabist_server_hello_ext(drafted) == NORRABIST_DRAFT18_EXT_AT);
+    HOLDS(draft18[NORRABIST_DRAFT18_EXT_AT] == 0xee && norrabist_server_hello_tail(drafted) == 39);
+    HOLDS(norrabist_parse_tls_handshake_server_hello(draft18, sizeof draft18).number ==
+          NORRABIST_TAG);
+    HOLDS(asked.number == NORRABIST_ACCEPTED && asked.version == 0x0304 && asked.cipher == 0x1301);
+    HOLDS(asked.has_ext && asked.ext == 1 && retry[NORRABIST_RETRY_EXT_AT] == 0xee);
+    HOLDS(norrabist_hello_retry_request_tail(asked) == 7);
+    HOLDS(norrabist_hello_retry_request_tail(
+              norrabist_parse_tls_handshake_msg_hello_retry_request(retry, 6)) == 4);
+}
+
+static void certificates(void) {
+    static const uint8_t body[] = {0, 0, 10, 0, 0, 1, 0xaa, 0, 0, 2, 0xbb, 0xbc, 0, 0xff};
+    static const uint8_t request[] = {1, 0x40, 0, 2, 4, 3, 0, 4, 0, 1, 0xcc, 0, 0xff};
+    static const uint8_t status[] = {1, 0, 0, 1, 0xdd, 0xff};
+    norrabist_certificate_told told =
+        norrabist_parse_tls_handshake_msg_certificate(body, sizeof body);
+    norrabist_certificate_request_told asked =
+        norrabist_parse_tls_handshake_certificaterequest(request, sizeof request);
+    norrabist_certificate_status_told stated =
+        norrabist_parse_tls_handshake_certificatestatus(status, sizeof status);
+    const uint8_t *chain = body + NORRABIST_CHAIN_AT;
+    norrabist_item_told item = norrabist_certificate_at(chain, told.chain, 0);
+
+    HOLDS(told.number == NORRABIST_ACCEPTED && told.chain == 10);
+    HOLDS(norrabist_certificate_tail(told) == 13);
+    HOLDS(item.number == NORRABIST_ACCEPTED && item.len == 1 && chain[item.start] == 0xaa);
+    item = norrabist_certificate_at(chain, told.chain, norrabist_item_next(item));
+    HOLDS(item.number == NORRABIST_ACCEPTED && item.len == 2 && chain[item.start] == 0xbb);
+    item = norrabist_certificate_at(chain, told.chain, norrabist_item_next(item));
+    HOLDS(item.number == NORRABIST_NO_SUCH && item.start == 0 && item.len == 0);
+    HOLDS(asked.number == NORRABIST_ACCEPTED && asked.has_pairs && asked.pairs == 2);
+    HOLDS(asked.types == 1 && request[NORRABIST_TYPES_AT] == 0x40);
+    HOLDS(norrabist_number_at(request + norrabist_certificate_request_pairs(asked), asked.pairs, 0)
+              .value == 0x0403);
+    item = norrabist_name_at(request + norrabist_certificate_request_names(asked), asked.names, 0);
+    HOLDS(item.number == NORRABIST_ACCEPTED && item.start == 2 && item.len == 1);
+    HOLDS(norrabist_certificate_request_tail(asked) == 12);
+    /* its first 4 bytes are the short form: no names */
+    HOLDS(norrabist_parse_tls_handshake_certificaterequest(request, 3).number ==
+          NORRABIST_COMPLETE);
+    asked = norrabist_parse_tls_handshake_certificaterequest((const uint8_t *)"\1\100\0\0", 4);
+    HOLDS(asked.number == NORRABIST_ACCEPTED && !asked.has_pairs && asked.names == 0);
+    HOLDS(norrabist_certificate_request_names(asked) == 4);
+    HOLDS(stated.number == NORRABIST_ACCEPTED && stated.status_type == 1 && stated.blob == 1);
+    HOLDS(status[NORRABIST_BLOB_AT] == 0xdd && norrabist_certificate_status_tail(stated) == 5);
+}
+
+static void others(void) {
+    static const uint8_t ticket[] = {0, 1, 0, 2, 0xaa, 0xbb}, next[] = {1, 0x68, 2, 0, 0, 0xff};
+    norrabist_new_session_ticket_told told =
+        norrabist_parse_tls_handshake_msg_newsessionticket(ticket, sizeof ticket, 5);
+    norrabist_next_protocol_told named =
+        norrabist_parse_tls_handshake_next_protocol(next, sizeof next);
+
+    HOLDS(told.number == NORRABIST_ACCEPTED && told.hint == 0x10002 && told.ticket == 1);
+    HOLDS(ticket[NORRABIST_TICKET_AT] == 0xaa && norrabist_new_session_ticket_tail(told) == 5);
+    HOLDS(norrabist_parse_tls_handshake_msg_newsessionticket(ticket, sizeof ticket, 3).number ==
+          NORRABIST_VERIFY);
+    HOLDS(named.number == NORRABIST_ACCEPTED && named.protocol == 1 && named.padding == 2);
+    HOLDS(next[NORRABIST_PROTOCOL_AT] == 0x68 && norrabist_next_protocol_padding(named) == 3);
+    HOLDS(norrabist_next_protocol_tail(named) == 5);
+    HOLDS(norrabist_parse_tls_handshake_msg_key_update(next, 1).request == 1);
+    HOLDS(norrabist_parse_tls_handshake_msg_key_update(next, 0).number == NORRABIST_INCOMPLETE);
+    HOLDS(norrabist_take_body(next, sizeof next, sizeof next) == NORRABIST_ACCEPTED);
+    HOLDS(norrabist_take_body(next, sizeof next, sizeof next + 1) == NORRABIST_INCOMPLETE);
+}
+
+static void numbers_of_lists(void) {
+    static const uint8_t list[] = {0xc0, 0x2c, 0, 0x9c, 0xff};
+
+    HOLDS(norrabist_number_count(sizeof list) == 2);
+    HOLDS(norrabist_number_at(list, sizeof list, 0).value == 0xc02c);
+    HOLDS(norrabist_number_at(list, sizeof list, 1).value == 0x009c);
+    HOLDS(norrabist_number_at(list, sizeof list, 2).number == NORRABIST_NO_SUCH);
+}
+
+static void refusals(void) {
+    const uint8_t *content = FLIGHT + NORRABIST_RECORD_HEADER_LEN;
+    const size_t len = sizeof FLIGHT - NORRABIST_RECORD_HEADER_LEN;
+    static const uint8_t tag[] = {3, 4};
+
+    HOLDS(norrabist_refusal(NORRABIST_CLIENT_HELLO, tag, 2, 2).number == NORRABIST_INCOMPLETE);
+    HOLDS(norrabist_refusal(NORRABIST_NEW_SESSION_TICKET, tag, 2, 2).number == NORRABIST_VERIFY);
+    HOLDS(norrabist_refusal(NORRABIST_SERVER_HELLO, tag, 2, 2).number == NORRABIST_TAG);
+    HOLDS(norrabist_refusal(NORRABIST_READER_SERVER_HELLO, tag, 2, 0).number == NORRABIST_TAG);
+    HOLDS(norrabist_refusal(0x03, tag, 2, 2).number == NORRABIST_SWITCH);
+    HOLDS(norrabist_refusal(NORRABIST_HELLO_REQUEST, tag, 2, 2).number == NORRABIST_ACCEPTED);
+    HOLDS(norrabist_refusal(NORRABIST_READER_RECORD_HEADER, tag, 2, 0).number ==
+          NORRABIST_INCOMPLETE);
+    HOLDS(norrabist_refusal(NORRABIST_READER_RAW_RECORD, FLIGHT, sizeof FLIGHT, 0).number ==
+          NORRABIST_ACCEPTED);
+    HOLDS(norrabist_refusal(NORRABIST_READER_PLAINTEXT, FLIGHT, sizeof FLIGHT, 0).number ==
+          NORRABIST_ACCEPTED);
+    HOLDS(norrabist_refusal(NORRABIST_READER_MESSAGE, content, len, 56).number ==
+          NORRABIST_INCOMPLETE);
+    HOLDS(norrabist_refusal(NORRABIST_READER_WALK, content, len, 52).number == NORRABIST_ACCEPTED);
+    HOLDS(norrabist_refusal(NORRABIST_READER_WALK, content, len, 56).number == NORRABIST_NO_SUCH);
+    HOLDS(norrabist_refusal(0x0106, tag, 2, 0).number == NORRABIST_SWITCH);
+}
+
+/* More than a record may hold. */
+static const uint8_t LARGE[NORRABIST_MAX_RECORD_LEN + 1] = {0};
+
+/* The hello of FLIGHT with another id, and extensions of two bytes. */
+static norrabist_wrote write_client(size_t id_len, uint8_t *out, size_t out_len) {
+    const uint8_t *body = FLIGHT + NORRABIST_FIRST_BODY_AT;
+
+    return norrabist_gen_tls_clienthello(
+        NORRABIST_TLS12, body + NORRABIST_RANDOM_AT, NORRABIST_RANDOM_LEN, LARGE, id_len, body + 39,
+        4, body + 44, 2, body, 2, out, out_len);
+}
+
+static void writers(void) {
+    uint8_t text[64], record[80];
+    norrabist_wrote wrote = write_client(2, text, 0);
+    norrabist_client_hello_told back;
+
+    HOLDS(wrote.number == NORRABIST_NO_ROOM && wrote.count == 54);
+    wrote = write_client(NORRABIST_MAX_ID_LEN + 1, text, sizeof text);
+    HOLDS(wrote.number == NORRABIST_BAD_LENGTH && wrote.count == 0);
+    wrote = write_client(2, text, sizeof text);
+    HOLDS(wrote.number == NORRABIST_ACCEPTED && wrote.count == 54);
+    HOLDS(memcmp(text + 4, FLIGHT + NORRABIST_FIRST_BODY_AT, NORRABIST_ID_AT) == 0);
+    HOLDS(memcmp(text + 41, FLIGHT + NORRABIST_FIRST_BODY_AT + 37, 9) == 0);
+    back = norrabist_parse_tls_handshake_client_hello(text + 4, wrote.count - 4);
+    HOLDS(back.number == NORRABIST_ACCEPTED && back.has_ext && back.ext == 2);
+    wrote = norrabist_gen_tls_plaintext(NORRABIST_HANDSHAKE, NORRABIST_TLS10, text, wrote.count,
+                                        record, sizeof record);
+    HOLDS(wrote.number == NORRABIST_ACCEPTED && wrote.count == 59);
+    HOLDS(norrabist_parse_tls_plaintext(record, wrote.count).msg_type == NORRABIST_CLIENT_HELLO);
+    wrote = norrabist_gen_tls_plaintext(NORRABIST_HANDSHAKE, NORRABIST_TLS10, LARGE, sizeof LARGE,
+                                        record, sizeof record);
+    HOLDS(wrote.number == NORRABIST_TOO_LARGE && wrote.count == 0);
+    wrote = norrabist_gen_tls_serverhello(NORRABIST_TLS12, FLIGHT, NORRABIST_RANDOM_LEN, FLIGHT, 1,
+                                          0xc02c, 7, FLIGHT, 0, text, sizeof text);
+    HOLDS(wrote.number == NORRABIST_ACCEPTED && wrote.count == 45);
+    HOLDS(norrabist_parse_tls_handshake_server_hello(text + 4, 41).compression == 7);
+    wrote = norrabist_gen_tls_serverhellodraft18(NORRABIST_TLS13_DRAFT18, FLIGHT,
+                                                 NORRABIST_RANDOM_LEN, 0x1301, FLIGHT, 0, text,
+                                                 sizeof text);
+    HOLDS(wrote.number == NORRABIST_ACCEPTED && wrote.count == 42);
+    HOLDS(norrabist_parse_tls_handshake_msg_server_hello(text + 4, 38).cipher == 0x1301);
+    wrote = norrabist_gen_tls_clientkeyexchange(NORRABIST_FORM_UNKNOWN, FLIGHT, 3, text,
+                                                sizeof text);
+    HOLDS(wrote.number == NORRABIST_ACCEPTED && wrote.count == 7);
+    wrote = norrabist_gen_tls_clientkeyexchange(NORRABIST_FORM_DH, FLIGHT, 3, text, sizeof text);
+    HOLDS(wrote.count == 9 && text[0] == NORRABIST_CLIENT_KEY_EXCHANGE && text[5] == 3);
+    wrote = norrabist_gen_tls_clientkeyexchange(NORRABIST_FORM_ECDH, FLIGHT, 3, text, sizeof text);
+    HOLDS(wrote.count == 8 && text[4] == 3);
+    wrote = norrabist_gen_tls_clientkeyexchange(NORRABIST_FORM_ECDH + 1, FLIGHT, 3, text, 64);
+    HOLDS(wrote.number == NORRABIST_BAD_LENGTH);
+    wrote = norrabist_gen_tls_hellorequest(text, sizeof text);
+    HOLDS(wrote.count == 4 && text[0] == NORRABIST_HELLO_REQUEST);
+    wrote = norrabist_gen_tls_finished(FLIGHT, 12, text, 15);
+    HOLDS(wrote.number == NORRABIST_NO_ROOM && wrote.count == 16);
+    wrote = norrabist_gen_tls_finished(FLIGHT, 12, text, sizeof text);
+    HOLDS(wrote.count == 16 && text[0] == NORRABIST_FINISHED && text[3] == 12);
+    HOLDS(norrabist_kind_written(NORRABIST_SERVER_HELLO_V13_DRAFT18) == NORRABIST_ACCEPTED);
+    HOLDS(norrabist_kind_written(NORRABIST_FINISHED) == NORRABIST_ACCEPTED);
+    HOLDS(norrabist_kind_written(NORRABIST_CERTIFICATE) == NORRABIST_NOT_YET_IMPLEMENTED);
+}
+
+int main(void) {
+    numbers();
+    records();
+    messages();
+    client_hello();
+    server_hello();
+    certificates();
+    others();
+    numbers_of_lists();
+    refusals();
+    writers();
+    printf("version %d.%d.%d: %u facts hold\n", NORRABIST_VERSION_MAJOR, NORRABIST_VERSION_MINOR,
+           NORRABIST_VERSION_PATCH, held);
+    return failed != 0;
 }

@@ -1,27 +1,168 @@
-//! `norrabist.h` compiles in C without a warning, links and answers.
+//! `norrabist.h` declares what the archive exports, function by function and field by field, has
+//! the names of the table of refusals, and compiles in C and in C++ without a warning, links and
+//! answers; so does the example in C.
 
-use std::path::Path;
-use std::process::Command;
+#[path = "support/rattle.rs"]
+mod rattle;
+
+use rattle::{text, Typed};
+use std::path::{Path, PathBuf};
+use std::process::{Command, Stdio};
 
 const HERE: &str = env!("CARGO_MANIFEST_DIR");
 
-/// Random, id, ciphers, methods, extensions, tail; the ciphers; how many bytes were written back;
-/// the refusal of one byte.
-const PRINTED: &str = "2 32 0 0 0 37 4 42 1 0 0 0 43 | c02c | 009c | 49 bytes | 1\n";
+/// Compilers and the oldest languages that the header is for, and one that has static assertions.
+const LANGUAGES: [&[&str]; 3] =
+    [&["cc", "-std=c99"], &["cc", "-std=c11"], &["c++", "-std=c++11", "-x", "c++"]];
 
-#[test]
-fn a_c_program_links_and_answers() {
-    let program = Path::new(env!("CARGO_TARGET_TMPDIR")).join("header");
-    let compiled = Command::new("cc")
-        .args(["-std=c99", "-Wall", "-Wextra", "-pedantic", "-Werror", "-I", HERE])
-        .arg(Path::new(HERE).join("tests/header.c"))
-        .arg(env!("NORRABIST_ARCHIVE"))
-        .arg("-o")
+/// Compiles a C program in one of the languages, with the archive; where it is.
+fn compiled(source: &str, language: &[&str]) -> PathBuf {
+    let name = [&[source], language].concat().join("-").replace(['/', '='], "-");
+    let program = Path::new(env!("CARGO_TARGET_TMPDIR")).join(name);
+    let archive = env!("NORRABIST_ARCHIVE");
+    let done = Command::new(language[0])
+        .args(["-Wall", "-Wextra", "-pedantic", "-Werror", "-I", HERE])
+        .args(&language[1..])
+        .arg(Path::new(HERE).join(source))
+        .args(["-x", "none", archive, "-o"])
         .arg(&program)
         .output()
-        .unwrap_or_else(|e| panic!("this test needs a C compiler, and `cc` cannot be run: {e}"));
-    assert!(compiled.status.success(), "cc: {}", String::from_utf8_lossy(&compiled.stderr));
-    let ran = Command::new(&program).output().expect("the program");
-    assert!(ran.status.success(), "the program ended with {}", ran.status);
-    assert_eq!(String::from_utf8_lossy(&ran.stdout), PRINTED);
+        .unwrap_or_else(|e| panic!("this test needs `{}`, which cannot be run: {e}", language[0]));
+    assert!(done.status.success(), "{language:?}: {}", String::from_utf8_lossy(&done.stderr));
+    program
+}
+
+/// What a program prints of a file on standard input, where it ends well.
+fn printed(program: &Path, input: Stdio) -> String {
+    let ran = Command::new(program).stdin(input).output().expect("the program");
+    let said = String::from_utf8_lossy(&ran.stdout).into_owned();
+    assert!(ran.status.success(), "{} ended with {}: {said}", program.display(), ran.status);
+    said
+}
+
+#[test]
+fn every_function_answers_in_c_and_in_cpp() {
+    for language in LANGUAGES {
+        let said = printed(&compiled("tests/header.c", language), Stdio::null());
+        let version = format!("version {}: ", env!("CARGO_PKG_VERSION"));
+        assert!(said.starts_with(&version) && said.ends_with(" facts hold\n"), "{said}");
+    }
+}
+
+#[test]
+fn the_example_prints_messages_ciphers_and_refusals() {
+    for language in LANGUAGES {
+        let program = compiled("examples/look.c", language);
+        let look = |name: &str| {
+            let path = Path::new(HERE).join("../crates/look").join(name);
+            printed(&program, std::fs::File::open(path).expect("recorded bytes").into())
+        };
+        let (whole, cut) = (look("handshake"), look("cut"));
+        assert!(whole.contains("28 ciphers: c02c c030 009f "), "{whole}");
+        assert!(whole.contains("\n  Certificate, 393 bytes\n"), "{whole}");
+        assert!(whole.contains("refused, Elsewhere (10)\n"), "{whole}");
+        assert!(cut.contains("extensions absent, and 102 bytes follow\n"), "{cut}");
+    }
+}
+
+/// The header without its comments and what the preprocessor takes, each blank one space.
+fn header() -> String {
+    let all = text(&Path::new(HERE).join("norrabist.h"));
+    let behind = all.split("*/").map(|part| part.split("/*").next().unwrap_or(part));
+    let code: String = behind.collect();
+    let lines = code.lines().filter(|line| !line.starts_with('#'));
+    lines.flat_map(str::split_whitespace).collect::<Vec<_>>().join(" ")
+}
+
+/// `client_hello` of `ClientHello`.
+fn snake(name: &str) -> String {
+    let letters = name.chars().enumerate();
+    letters.fold(String::new(), |mut all, (k, letter)| {
+        all.extend((k > 0 && letter.is_ascii_uppercase()).then_some('_'));
+        all.push(letter.to_ascii_lowercase());
+        all
+    })
+}
+
+/// The type in C of a type in Rattle, with what stands between it and a name.
+fn c_type(of: &str) -> String {
+    match of {
+        "u8" | "u16" | "u32" => format!("uint{}_t ", &of[1..]),
+        "usize" => "size_t ".into(),
+        "bool" => "bool ".into(),
+        "&[u8]" => "const uint8_t *".into(),
+        "&mut [u8]" => "uint8_t *".into(),
+        told => format!("norrabist_{} ", snake(told)),
+    }
+}
+
+/// `const uint8_t *i, size_t i_len` of `i: &[u8]`.
+fn parameter((name, of): &Typed) -> String {
+    let length = if of.ends_with(']') { format!(", size_t {name}_len") } else { String::new() };
+    format!("{}{name}{length}", c_type(of))
+}
+
+/// All of a list, one behind the other.
+fn joined(list: &[Typed], between: &str) -> String {
+    list.iter().map(parameter).collect::<Vec<_>>().join(between)
+}
+
+/// The pieces of a list in C, without blanks round them.
+fn pieces(list: &str, between: char) -> impl Iterator<Item = &str> {
+    list.split(between).map(str::trim).filter(|piece| !piece.is_empty())
+}
+
+fn sorted(all: impl Iterator<Item = String>) -> Vec<String> {
+    let mut all: Vec<_> = all.collect();
+    all.sort();
+    all
+}
+
+#[test]
+fn the_header_declares_the_exports() {
+    let exports = rattle::exports().into_iter().map(|export| {
+        let parameters = joined(&export.parameters, ", ");
+        format!("{}{}({parameters})", c_type(&export.answer), export.name)
+    });
+    let header = header();
+    let pieces = header.split([';', '{', '}']).map(str::trim);
+    let declared = pieces.filter(|piece| piece.ends_with(')') && piece.contains(" norrabist_"));
+    let own = |piece: &&str| !["static ", "return ", "NORRABIST_"].iter().any(|w| piece.starts_with(w));
+    let declared = declared.filter(own).map(|piece| piece.replace("( ", "("));
+    assert_eq!(sorted(declared), sorted(exports));
+}
+
+#[test]
+fn the_header_has_the_structs_of_the_exports() {
+    let exported = rattle::told().into_iter();
+    let exported =
+        exported.map(|told| format!("norrabist_{}: {}", snake(&told.name), joined(&told.fields, "; ")));
+    let header = header();
+    let declared = header.split("typedef struct ").skip(1).map(|told| {
+        let (name, rest) = told.split_once(" {").expect("fields");
+        let (fields, behind) = rest.split_once("} ").expect("an end");
+        assert!(behind.starts_with(&format!("{name}; NORRABIST_HAS_SIZE({name}, ")), "{name}");
+        format!("{name}: {}", pieces(fields, ';').collect::<Vec<_>>().join("; "))
+    });
+    assert_eq!(sorted(declared), sorted(exported));
+}
+
+/// The numbers and names of the table of RULES 1.1, as the header has them.
+#[test]
+fn the_header_has_the_table_of_refusals() {
+    let (rules, header) = (text(&Path::new(HERE).join("../docs/RULES.md")), header());
+    let rows = rules.lines().filter_map(|line| line.strip_prefix("| ")?.split_once(" | "));
+    let rows = rows.filter_map(|(number, row)| Some((number.parse::<u8>().ok()?, row)));
+    let (_, of) = header.split_once("enum norrabist_reason { ").expect("the enum");
+    let table: Vec<_> = pieces(of.split_once(" }").expect("its end").0, ',').collect();
+    let mut count = 0;
+    for ((number, row), told) in rows.take(table.len()).zip(&table) {
+        let name = row.split([' ', '|']).next().expect("a name");
+        let constant = format!("NORRABIST_{}", snake(name).to_uppercase());
+        assert_eq!(*told, format!("{constant} = {number}"));
+        assert!(header.contains(&format!("case {constant}: return \"{name}\";")), "{name}");
+        assert_eq!(usize::from(number), count);
+        count += 1;
+    }
+    assert_eq!((count, header.matches("case NORRABIST_").count()), (table.len(), table.len()));
 }

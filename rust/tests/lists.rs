@@ -1,4 +1,4 @@
-//! Lists at and across the blocks in which they are told.
+//! Lists of all lengths, read as a `Vec` is, and made of one.
 
 use norrabist::*;
 
@@ -33,7 +33,7 @@ fn numbers_of_two_bytes() {
                 by_next.push(cipher.0);
             }
             assert_eq!(by_next, expected, "{n} by next");
-            assert_eq!(list.iter().map(u16::from).collect::<Vec<_>>(), expected, "{n} folded");
+            assert_eq!(list.values().map(u16::from).collect::<Vec<_>>(), expected, "{n} folded");
             assert_eq!((list.len(), list.iter().len(), list.is_empty()), (n, n, n == 0));
             assert_eq!(list.as_bytes(), bytes);
         }
@@ -44,7 +44,7 @@ fn numbers_of_two_bytes() {
 fn numbers_from_the_middle() {
     let bytes = numbers(200);
     let list: List<u16> = List::new(&bytes);
-    let mut iter = list.iter();
+    let mut iter = list.values();
     for k in 0..200usize {
         assert_eq!(iter.len(), 200 - k);
         // what is left, folded
@@ -61,10 +61,7 @@ fn ciphers_of_a_hello() {
         let (_, hello) = parse_tls_handshake_client_hello(&body).expect("a hello");
         assert_eq!((hello.ciphers.len(), hello.ciphers.as_bytes()), (n, &numbers(n)[..]));
         assert_eq!(hello.ciphers.iter().last().map(|c| c.0), n.checked_sub(1).map(|k| k as u16 * 257 + 1));
-        assert_eq!(
-            hello.comp.iter().collect::<Vec<_>>(),
-            [TlsCompressionID::Null, TlsCompressionID::Deflate]
-        );
+        assert_eq!(hello.comp.to_vec(), [TlsCompressionID::Null, TlsCompressionID::Deflate]);
         assert_eq!((hello.comp.len(), hello.comp.is_empty(), hello.comp.as_bytes()), (2, false, &[0, 1][..]));
     }
 }
@@ -96,7 +93,7 @@ fn names_and_pairs() {
         let algs = c.sig_hash_algs.expect("the long form");
         assert!(c.unparsed_ca.iter().eq(parts.iter().map(|p| &p[..])), "{n}");
         assert_eq!((c.unparsed_ca.len(), algs.len(), algs.as_bytes()), (n, n, &pairs[..]));
-        assert_eq!((c.cert_types.iter().collect::<Vec<_>>(), rest), (vec![1, 64], &[][..]));
+        assert_eq!((c.cert_types.to_vec(), rest), (vec![1, 64], &[][..]));
     }
 }
 
@@ -151,9 +148,10 @@ fn content_without_messages() {
     for content in [&[][..], &[0x01, 0, 0, 0], &[0x03, 0, 0, 0], &[0, 0, 0]] {
         let messages = TlsMessages::new(content);
         assert!(messages.is_empty() && messages.iter().next().is_none() && messages.heads().next().is_none());
-        assert_eq!((messages.len(), record_walk_next(content, 0)), (0, Err(Refusal::NoSuch)));
+        assert_eq!(messages.len(), 0);
+        assert!(record_walk_next(content, 0).is_err_and(|end| end == Reason::NoSuch));
     }
-    assert_eq!(record_walk_next(&[0, 0, 0, 0], usize::MAX), Err(Refusal::NoSuch));
+    assert!(record_walk_next(&[0, 0, 0, 0], usize::MAX).is_err_and(|end| end == Reason::NoSuch));
 }
 
 #[test]
@@ -162,5 +160,77 @@ fn lists_are_equal_by_their_items() {
     assert_eq!(List::<u16>::new(&even), List::new(&odd));
     assert_ne!(List::<u16>::new(&even), List::new(&even[..2]));
     assert_eq!(format!("{:?}", List::<u16>::new(&odd)), "[1, 2]");
-    assert_eq!(format!("{:?}", List::<TlsCompressionID>::new(&[0, 9])), "[Null, TlsCompressionID(0x9)]");
+    assert_eq!(format!("{:?}", List::<TlsCompressionID>::new(&[0, 9])), "[Null, TlsCompressionID(9 / 0x9)]");
+}
+
+#[test]
+fn numbers_by_their_places() {
+    let bytes = numbers(200);
+    for bytes in [&bytes[..], &[&bytes[..], &[0xee]].concat()] {
+        let list: List<TlsCipherSuiteID> = List::new(bytes);
+        let all = list.to_vec();
+        assert_eq!((all.len(), list.first(), list.last()), (200, all.first(), all.last()));
+        assert!(list.iter().eq(&all) && list.iter().rev().eq(all.iter().rev()));
+        assert!(list.values().rev().eq(all.iter().rev().copied()) && list.into_iter().eq(all.clone()));
+        for (place, cipher) in all.iter().enumerate() {
+            assert_eq!((list.get(place), &list[place]), (Some(cipher), cipher));
+            assert_eq!(list.iter().nth_back(place), all.iter().nth_back(place));
+            assert!(list.contains(cipher));
+        }
+        assert_eq!((list.get(200), list.get(usize::MAX)), (None, None));
+        assert!(!list.contains(&TlsCipherSuiteID(0)));
+    }
+}
+
+/// Each value has a place of its own, which holds it.
+#[test]
+fn every_number_by_reference() {
+    for n in 0..=u16::MAX {
+        let bytes = n.to_be_bytes();
+        assert_eq!(List::<TlsCipherSuiteID>::new(&bytes)[0], TlsCipherSuiteID(n));
+        assert_eq!(List::<u16>::new(&bytes)[0], n);
+        assert_eq!(List::<TlsCompressionID>::new(&bytes)[1], TlsCompressionID(bytes[1]));
+        assert_eq!(List::<u8>::new(&bytes)[1], bytes[1]);
+    }
+}
+
+#[test]
+#[should_panic(expected = "index out of bounds: the len is 1 but the index is 1")]
+fn no_such_place() {
+    let _ = List::<u16>::new(&[0, 1, 2])[1];
+}
+
+#[test]
+fn parts_by_their_places() {
+    let parts = parts(20);
+    let chain = list(3, &parts, &[0]);
+    let chain: List<RawCertificate> = List::new(&chain);
+    let all = chain.to_vec();
+    assert!(all.iter().map(|cert| cert.data).eq(parts.iter().map(|part| &part[..])));
+    assert_eq!((chain.first(), chain.last()), (all.first().copied(), all.last().copied()));
+    assert_eq!((chain.get(7), chain.get(20)), (Some(all[7]), None));
+    assert!(chain.contains(&all[19]) && chain.into_iter().eq(all.iter().copied()));
+    assert_eq!(chain, all);
+    assert_eq!(all, chain);
+}
+
+#[test]
+fn made_of_a_vec() {
+    for n in [0, 1, 2, 200, 40_000] {
+        let ciphers: Vec<TlsCipherSuiteID> = (0..n).map(|k| TlsCipherSuiteID(k as u16)).collect();
+        let list = List::from(ciphers.clone());
+        assert_eq!((list.as_bytes(), list.len()), (&List::encode(&ciphers)[..], n));
+        assert_eq!((&list, list == ciphers[..]), (&ciphers.iter().copied().collect(), true));
+        assert_eq!(Vec::from(list), ciphers);
+        // an equal list is the same memory
+        assert_eq!(List::from(&ciphers[..]).as_bytes().as_ptr(), list.as_bytes().as_ptr());
+    }
+    assert_eq!(List::from([1u8, 2]).as_bytes(), [1, 2]);
+    assert_eq!(List::<u16>::default(), []);
+}
+
+/// A message is a value of plain words: there is nothing to drop.
+#[test]
+fn nothing_to_drop() {
+    assert!(!std::mem::needs_drop::<TlsMessageHandshake>());
 }

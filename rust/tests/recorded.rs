@@ -2,9 +2,9 @@
 
 mod support;
 
-use norrabist::{parse_tls_plaintext, record_walk_next, Refusal};
+use norrabist::{parse_tls_plaintext, record_walk_next, Reason, TlsMessage};
 use std::io::{self, Write};
-use support::{answer, functions, text, writing};
+use support::{answer, functions, reasons, text, writing};
 
 /// The recorded list, and the smallest inputs at which tls-parser and RFC 5246 part.
 const LIST: &str = concat!(env!("CARGO_MANIFEST_DIR"), "/../compare/recorded.txt");
@@ -76,7 +76,7 @@ fn outputs(name: &str, input: &[u8], answer: &[u64]) -> Result<(), String> {
         }
         let mut out = vec![fill; text.len() - 1];
         let got = writing::write(name, input, &mut out);
-        if got != Some(Err(Refusal::NoRoom)) || out.iter().any(|b| *b != fill) {
+        if got.map(reasons) != Some(Err(Reason::NoRoom)) || out.iter().any(|b| *b != fill) {
             return Err(format!("{name}: one byte too few gives {got:?}"));
         }
     }
@@ -91,6 +91,7 @@ fn walks(input: &[u8]) -> Result<(), String> {
     let (mut at, mut count) = (0, 0);
     let mut heads = record.msg.heads();
     for message in &record.msg {
+        let TlsMessage::Handshake(message) = message else { return Err("no handshake message".into()) };
         let (walked, next) =
             record_walk_next(content, at).map_err(|r| format!("the walk ends at {at}: {r}"))?;
         let head = heads.next().ok_or("no head")?;
@@ -99,7 +100,8 @@ fn walks(input: &[u8]) -> Result<(), String> {
         }
         (at, count) = (next, count + 1);
     }
-    let ended = record_walk_next(content, at) == Err(Refusal::NoSuch) && heads.next().is_none();
+    let ended =
+        record_walk_next(content, at).is_err_and(|end| end == Reason::NoSuch) && heads.next().is_none();
     let counted = count == record.count() && count == record.msg.len() && !record.msg.is_empty();
     if ended && counted && content.len() - at == record.dropped() {
         return Ok(());

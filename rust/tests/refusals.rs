@@ -1,6 +1,7 @@
-//! Each refusal once, with its number and name, and what a refused writing leaves.
+//! Each refusal once, with its number, name and text, and what a refused writing leaves.
 
 use norrabist::*;
+use std::collections::HashSet;
 
 const NAMES: [&str; 12] = [
     "Incomplete",
@@ -17,6 +18,10 @@ const NAMES: [&str; 12] = [
     "NotYetImplemented",
 ];
 
+fn reason<T>(answer: Result<T, Refusal>) -> Option<Reason> {
+    answer.err().map(|refusal| refusal.reason)
+}
+
 /// A hello with every part.
 fn hello<'a>() -> TlsClientHelloContents<'a> {
     let ciphers = List::new(&[0xc0, 0x2c, 0xc0, 0x30]);
@@ -31,44 +36,57 @@ fn hello<'a>() -> TlsClientHelloContents<'a> {
 }
 
 /// A ClientHello body up to the id's length, and what follows.
-fn client(rest: &[u8]) -> Option<Refusal> {
+fn client(rest: &[u8]) -> Option<Reason> {
     let body = [&[0x03, 0x03][..], &[0; 32], rest].concat();
-    parse_tls_handshake_client_hello(&body).err()
+    reason(parse_tls_handshake_client_hello(&body))
 }
 
 /// An example of each, by its number.
-fn refused() -> [Option<Refusal>; 12] {
+fn refused() -> [Option<Reason>; 12] {
     let short = TlsClientHelloContents { random: &[7; 31], ..hello() };
     let unwritten = TlsMessageHandshake::ServerDone(&[]);
     let mut out = [0; 100];
     [
         client(&[]),
-        parse_tls_plaintext(&[0x16, 0x03, 0x03, 0, 4, 0x01, 0, 0, 0]).err(),
+        reason(parse_tls_plaintext(&[0x16, 0x03, 0x03, 0, 4, 0x01, 0, 0, 0])),
         client(&[33]),
         client(&[0, 0, 1, 0]),
-        parse_tls_handshake_server_hello(&[0x03, 0x04]).err(),
-        parse_tls_message_handshake(&[0x03, 0, 0, 0]).err(),
-        parse_tls_raw_record(&[0x16, 0x03, 0x03, 0x41, 0x01]).err(),
-        gen_tls_clienthello(&short, &mut out).err(),
-        gen_tls_hellorequest(&mut out[..3]).err(),
-        parse_tls_plaintext(&[0x15, 0x03, 0x03, 0, 2, 1, 0]).err(),
-        record_walk_next(&[0, 0, 0, 0], 4).err(),
-        gen_tls_messagehandshake(&unwritten, &mut out).err(),
+        reason(parse_tls_handshake_server_hello(&[0x03, 0x04])),
+        reason(parse_tls_message_handshake(&[0x03, 0, 0, 0])),
+        reason(parse_tls_raw_record(&[0x16, 0x03, 0x03, 0x41, 0x01])),
+        reason(gen_tls_clienthello(&short, &mut out)),
+        reason(gen_tls_hellorequest(&mut out[..3])),
+        reason(parse_tls_plaintext(&[0x15, 0x03, 0x03, 0, 2, 1, 0])),
+        reason(record_walk_next(&[0, 0, 0, 0], 4)),
+        reason(gen_tls_messagehandshake(&unwritten, &mut out)),
     ]
 }
 
 #[test]
 fn each_is_given() {
-    assert_eq!(refused(), Refusal::ALL.map(Some));
+    assert!(refused().into_iter().flatten().eq(Reason::ALL.iter().copied()));
 }
 
 #[test]
 fn numbers_and_names() {
-    for (k, (refusal, name)) in Refusal::ALL.into_iter().zip(NAMES).enumerate() {
+    for (k, (reason, name)) in Reason::ALL.iter().zip(NAMES).enumerate() {
+        let refusal = Refusal::from(*reason);
         assert_eq!((usize::from(refusal.number()), refusal.name()), (k + 1, name));
-        assert_eq!(refusal.to_string(), format!("{name} ({})", k + 1));
+        assert_eq!(Reason::from(refusal.number()), *reason);
+        assert_eq!(refusal.to_string(), format!("{name} ({}): {}", k + 1, reason.text()));
+        assert!(refusal == *reason);
         let error: &dyn std::error::Error = &refusal;
         assert!(error.source().is_none());
+    }
+}
+
+#[test]
+fn an_unknown_number_has_no_name_of_another() {
+    let names: HashSet<&str> = NAMES.into_iter().collect();
+    for number in (0..=u8::MAX).filter(|n| !(1..=12).contains(n)) {
+        let unknown = Reason::from(number);
+        assert_eq!((unknown, unknown.number()), (Reason::Unknown(number), number));
+        assert!(!names.contains(unknown.name()));
     }
 }
 
@@ -80,7 +98,8 @@ fn no_room_at_every_length_short_of_the_text() {
     assert!(out[text..].iter().all(|b| *b == 0xa5));
     for room in 0..text {
         let mut out = [0xa5; 100];
-        assert_eq!(gen_tls_clienthello(&hello(), &mut out[..room]), Err(Refusal::NoRoom), "{room} bytes");
+        let answer = gen_tls_clienthello(&hello(), &mut out[..room]);
+        assert_eq!(reason(answer), Some(Reason::NoRoom), "{room} bytes");
         assert_eq!(out, [0xa5; 100], "{room} bytes");
     }
     assert_eq!(gen_tls_clienthello(&hello(), &mut out[..text]), Ok(text));
@@ -93,7 +112,7 @@ fn parts_that_are_too_long() {
     let ecdh = TlsClientKeyExchangeContents::Ecdh(ECPoint { point: byte });
     let hdr = TlsRecordHeader { record_type: TlsRecordType::Handshake, version: TlsVersion::Tls12, len: 0 };
     let mut out = vec![0xa5; (1 << 24) + 8];
-    let bad = Err(Refusal::BadLength);
+    let bad = Some(Reason::BadLength);
     for hello in [
         TlsClientHelloContents { random: &long[..33], ..hello() },
         TlsClientHelloContents { session_id: Some(&long[..33]), ..hello() },
@@ -102,17 +121,18 @@ fn parts_that_are_too_long() {
         TlsClientHelloContents { comp: List::new(byte), ..hello() },
         TlsClientHelloContents { ext: Some(word), ..hello() },
     ] {
-        assert_eq!(gen_tls_clienthello(&hello, &mut out), bad, "{:?}", hello.random.len());
+        assert_eq!(reason(gen_tls_clienthello(&hello, &mut out)), bad, "{:?}", hello.random.len());
     }
-    assert_eq!(gen_tls_clientkeyexchange(&ecdh, &mut out), bad);
-    assert_eq!(gen_tls_clientkeyexchange(&TlsClientKeyExchangeContents::Dh(word), &mut out), bad);
-    assert_eq!(gen_tls_clientkeyexchange(&TlsClientKeyExchangeContents::Unknown(&long), &mut out), bad);
-    assert_eq!(gen_tls_finished(&long, &mut out), bad);
-    let unwritten = TlsMessageHandshake::ServerDone(&long);
-    assert_eq!(gen_tls_messagehandshake(&unwritten, &mut out), Err(Refusal::NotYetImplemented));
+    assert_eq!(reason(gen_tls_clientkeyexchange(&ecdh, &mut out)), bad);
+    assert_eq!(reason(gen_tls_clientkeyexchange(&TlsClientKeyExchangeContents::Dh(word), &mut out)), bad);
     assert_eq!(
-        gen_tls_plaintext(&hdr, &long[..usize::from(MAX_RECORD_LEN) + 1], &mut out),
-        Err(Refusal::TooLarge)
+        reason(gen_tls_clientkeyexchange(&TlsClientKeyExchangeContents::Unknown(&long), &mut out)),
+        bad
     );
+    assert_eq!(reason(gen_tls_finished(&long, &mut out)), bad);
+    let unwritten = TlsMessageHandshake::ServerDone(&long);
+    assert_eq!(reason(gen_tls_messagehandshake(&unwritten, &mut out)), Some(Reason::NotYetImplemented));
+    let large = &long[..usize::from(MAX_RECORD_LEN) + 1];
+    assert_eq!(reason(gen_tls_plaintext(&hdr, large, &mut out)), Some(Reason::TooLarge));
     assert!(out.iter().all(|b| *b == 0xa5), "a refused writing changed the output");
 }

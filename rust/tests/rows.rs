@@ -10,6 +10,10 @@ fn bytes(text: &str) -> Vec<u8> {
     hex(text).expect("hex")
 }
 
+fn reason<T>(answer: Result<T, Refusal>) -> Option<Reason> {
+    answer.err().map(|refusal| refusal.reason)
+}
+
 /// `0303 Z` and what follows; Z is 32 zero bytes.
 fn hello(rest: &str) -> Vec<u8> {
     [bytes("0303"), vec![0; 32], bytes(rest)].concat()
@@ -20,8 +24,8 @@ fn h(rest: &str) -> Vec<u8> {
     [hello("00 0000 00"), bytes(rest)].concat()
 }
 
-fn client_refusal(body: &[u8]) -> Option<Refusal> {
-    parse_tls_handshake_client_hello(body).err()
+fn client_refusal(body: &[u8]) -> Option<Reason> {
+    reason(parse_tls_handshake_client_hello(body))
 }
 
 /// H is read with no id and all lists empty; extensions and the tail's place are given.
@@ -36,7 +40,7 @@ fn reads_h(rest: &str, ext: Option<&[u8]>, tail: usize) {
 
 #[test]
 fn row_1_an_empty_client_hello() {
-    assert_eq!(client_refusal(&[]), Some(Refusal::Incomplete));
+    assert_eq!(client_refusal(&[]), Some(Reason::Incomplete));
 }
 
 #[test]
@@ -50,43 +54,43 @@ fn rows_2_to_5_extensions_and_tail() {
 
 #[test]
 fn rows_6_and_7_session_ids() {
-    assert_eq!(client_refusal(&hello("21")), Some(Refusal::Verify));
+    assert_eq!(client_refusal(&hello("21")), Some(Reason::Verify));
     let short = [hello("20"), vec![0; 31]].concat();
-    assert_eq!(client_refusal(&short), Some(Refusal::Incomplete));
+    assert_eq!(client_refusal(&short), Some(Reason::Incomplete));
 }
 
 #[test]
 fn rows_8_and_9_list_lengths() {
-    assert_eq!(client_refusal(&hello("00 0001 00")), Some(Refusal::LengthValue));
-    assert_eq!(client_refusal(&hello("00 0002 00")), Some(Refusal::LengthValue));
-    assert_eq!(client_refusal(&hello("00 0000 01")), Some(Refusal::LengthValue));
+    assert_eq!(client_refusal(&hello("00 0001 00")), Some(Reason::LengthValue));
+    assert_eq!(client_refusal(&hello("00 0002 00")), Some(Reason::LengthValue));
+    assert_eq!(client_refusal(&hello("00 0000 01")), Some(Reason::LengthValue));
 }
 
 #[test]
 fn rows_10_and_11_messages() {
-    let refusal = |message: &str| parse_tls_message_handshake(&bytes(message)).err();
-    assert_eq!(refusal("03 000000"), Some(Refusal::Switch));
-    assert_eq!(refusal("03 000001"), Some(Refusal::Incomplete));
-    assert_eq!(refusal("01 000000"), Some(Refusal::Incomplete));
+    let refusal = |message: &str| reason(parse_tls_message_handshake(&bytes(message)));
+    assert_eq!(refusal("03 000000"), Some(Reason::Switch));
+    assert_eq!(refusal("03 000001"), Some(Reason::Incomplete));
+    assert_eq!(refusal("01 000000"), Some(Reason::Incomplete));
     let record = bytes("16 0301 0004 01000000");
-    assert_eq!(parse_tls_plaintext(&record).err(), Some(Refusal::Complete));
+    assert_eq!(reason(parse_tls_plaintext(&record)), Some(Reason::Complete));
 }
 
 #[test]
 fn rows_12_and_13_records() {
-    let refusal = |record: &str| parse_tls_plaintext(&bytes(record)).err();
-    assert_eq!(refusal("16 0301 4101"), Some(Refusal::TooLarge));
-    assert_eq!(refusal("16 0301 4100"), Some(Refusal::Incomplete));
+    let refusal = |record: &str| reason(parse_tls_plaintext(&bytes(record)));
+    assert_eq!(refusal("16 0301 4101"), Some(Reason::TooLarge));
+    assert_eq!(refusal("16 0301 4100"), Some(Reason::Incomplete));
     let record = bytes("16 0303 0005 00000000 01");
     let (rest, record) = parse_tls_plaintext(&record).expect("a record");
     assert_eq!((record.count(), record.dropped(), rest), (1, 1, &[][..]));
-    assert!(record.msg.iter().eq([HelloRequest]));
+    assert!(record.msg.handshakes().eq([HelloRequest]));
 }
 
 #[test]
 fn row_14_server_hello_versions() {
-    assert_eq!(parse_tls_handshake_server_hello(&bytes("0304")).err(), Some(Refusal::Tag));
-    assert_eq!(parse_tls_handshake_server_hello(&bytes("03")).err(), Some(Refusal::Incomplete));
+    assert_eq!(reason(parse_tls_handshake_server_hello(&bytes("0304"))), Some(Reason::Tag));
+    assert_eq!(reason(parse_tls_handshake_server_hello(&bytes("03"))), Some(Reason::Incomplete));
 }
 
 #[test]
@@ -121,5 +125,5 @@ fn rows_17_and_18_certificate_requests() {
     request("00 0002 0000", None, &[empty]);
     request("00 0000 0000", Some(0), &[]);
     request("00 0000", None, &[]);
-    assert_eq!(parse_tls_handshake_certificaterequest(&bytes("00 00")).err(), Some(Refusal::Complete));
+    assert_eq!(reason(parse_tls_handshake_certificaterequest(&bytes("00 00"))), Some(Reason::Complete));
 }

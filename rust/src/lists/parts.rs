@@ -1,23 +1,25 @@
 //! Lists of parts, each behind its length: certificates, and the names of a CertificateRequest.
 
 use super::{sealed::Sealed, Item};
-use crate::ffi::{Block, Lister};
+use crate::ffi::{self, part, ItemTold};
 use crate::handshake::RawCertificate;
-use crate::told::part;
-use std::iter::FusedIterator;
-use std::marker::PhantomData;
+use core::iter::FusedIterator;
+use core::marker::PhantomData;
 
 /// An item that is a part of the list's bytes.
 pub trait Part<'a> {
-    /// The export that tells such items.
-    const LISTER: Lister<2>;
+    /// What is told of the item whose length stands at that byte.
+    fn at(list: &[u8], at: usize) -> ItemTold;
 
     /// The item that has these bytes.
     fn of(data: &'a [u8]) -> Self;
 }
 
 impl<'a> Part<'a> for RawCertificate<'a> {
-    const LISTER: Lister<2> = Lister::CERTIFICATES;
+    #[inline(always)]
+    fn at(list: &[u8], at: usize) -> ItemTold {
+        ffi::certificate_at(list, at)
+    }
 
     #[inline]
     fn of(data: &'a [u8]) -> Self {
@@ -26,7 +28,10 @@ impl<'a> Part<'a> for RawCertificate<'a> {
 }
 
 impl<'a> Part<'a> for &'a [u8] {
-    const LISTER: Lister<2> = Lister::NAMES;
+    #[inline(always)]
+    fn at(list: &[u8], at: usize) -> ItemTold {
+        ffi::name_at(list, at)
+    }
 
     #[inline]
     fn of(data: &'a [u8]) -> Self {
@@ -38,7 +43,7 @@ impl<'a> Part<'a> for &'a [u8] {
 #[derive(Clone)]
 pub struct Parts<'a, T> {
     list: &'a [u8],
-    block: Block<[usize; 2], 8>,
+    at: usize,
     items: PhantomData<T>,
 }
 
@@ -47,8 +52,13 @@ impl<'a, T: Part<'a>> Iterator for Parts<'a, T> {
 
     #[inline]
     fn next(&mut self) -> Option<T> {
-        let [start, len] = self.block.next_item(T::LISTER, self.list)?;
-        Some(T::of(part(self.list, start, len)))
+        let told = T::at(self.list, self.at);
+        if told.number != 0 {
+            return None;
+        }
+        let data = part(self.list, told.start, told.len as usize)?;
+        self.at = told.start + data.len();
+        Some(T::of(data))
     }
 }
 
@@ -59,11 +69,18 @@ macro_rules! parts {
         impl<'a> Sealed for $t {}
 
         impl<'a> Item<'a> for $t {
+            type Ref = $t;
             type Iter = Parts<'a, $t>;
+            type Values = Parts<'a, $t>;
 
             #[inline]
             fn iter(list: &'a [u8]) -> Parts<'a, $t> {
-                Parts { list, block: Block::new(0, true), items: PhantomData }
+                Parts { list, at: 0, items: PhantomData }
+            }
+
+            #[inline]
+            fn values(list: &'a [u8]) -> Parts<'a, $t> {
+                Self::iter(list)
             }
         }
     )*};

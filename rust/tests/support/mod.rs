@@ -9,6 +9,13 @@ pub mod text;
 pub mod values;
 pub mod writing;
 
+use norrabist::{Reason, Refusal};
+
+/// An answer with the reason of its refusal.
+pub fn reasons<T>(answer: Result<T, Refusal>) -> Result<T, Reason> {
+    answer.map_err(|refusal| refusal.reason)
+}
+
 /// The readers and writers, by their names in tls-parser.
 pub fn functions() -> impl Iterator<Item = &'static str> {
     table::READERS.iter().chain(writing::WRITERS).copied()

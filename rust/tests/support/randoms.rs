@@ -15,16 +15,22 @@ pub fn numbers(name: &str, i: &[u8]) -> Vec<u64> {
             parse_tls_handshake_msg_client_hello(i).iter().for_each(|(_, m)| message(&mut sheet, m))
         }
         "parse_tls_message_handshake" => {
-            parse_tls_message_handshake(i).iter().for_each(|(_, m)| message(&mut sheet, m))
+            parse_tls_message_handshake(i).iter().for_each(|(_, m)| opened(&mut sheet, m))
         }
         "parse_tls_plaintext" => {
             let messages = parse_tls_plaintext(i).ok().map(|(_, record)| record.msg);
-            messages.iter().flatten().for_each(|m| message(&mut sheet, &m));
+            messages.iter().flatten().for_each(|m| opened(&mut sheet, &m));
         }
         "gen_tls_clienthello" => writing::client(i).iter().for_each(|hello| random(&mut sheet, hello)),
         _ => {}
     }
     sheet.numbers
+}
+
+fn opened(s: &mut Sheet, m: &TlsMessage) {
+    if let TlsMessage::Handshake(m) = m {
+        message(s, m);
+    }
 }
 
 fn message(s: &mut Sheet, m: &TlsMessageHandshake) {

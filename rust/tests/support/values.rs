@@ -44,7 +44,11 @@ told! {
     TlsPlaintext<'_>: (r, s) {
         r.hdr.told(s);
         s.size(r.count());
-        for m in &r.msg {
+        r.msg.iter().for_each(|m| m.told(s));
+    }
+    TlsMessage<'_>: (m, s) {
+        // no reader gives another: the case is answered short
+        if let TlsMessage::Handshake(m) = m {
             m.told(s);
         }
     }
@@ -90,13 +94,13 @@ told! {
     }
     TlsCertificateRequestContents<'_>: (r, s) {
         s.size(r.cert_types.len());
-        r.cert_types.iter().for_each(|t| s.number(t));
+        r.cert_types.iter().for_each(|t| s.number(*t));
         s.number(r.sig_hash_algs.is_some());
         if let Some(pairs) = &r.sig_hash_algs {
             s.size(pairs.len());
             // not by `for_each`, so that both ways through numbers are taken
             for pair in pairs {
-                s.number(pair);
+                s.number(*pair);
             }
         }
         s.size(r.unparsed_ca.len());

@@ -47,7 +47,7 @@ writers! {
     gen_tls_hellorequest: (i, out) => i.is_empty().then(|| gen_tls_hellorequest(out))?;
     gen_tls_finished: (i, out) => gen_tls_finished(i, out);
     gen_tls_messagehandshake: (i, out) => {
-        let (_, message) = parse_tls_message_handshake(i).ok()?;
+        let (_, TlsMessage::Handshake(message)) = parse_tls_message_handshake(i).ok()? else { return None };
         gen_tls_messagehandshake(&message, out)
     };
     gen_tls_plaintext: (i, out) => {
