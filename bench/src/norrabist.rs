@@ -1,5 +1,6 @@
 //! Norrabist's side: the same work, by the same names.
 
+use crate::each;
 use norrabist::*;
 
 fn len(part: Option<&[u8]>) -> usize {
@@ -8,8 +9,9 @@ fn len(part: Option<&[u8]>) -> usize {
 
 #[inline(never)]
 fn hello(c: &TlsClientHelloContents) -> usize {
-    let ciphers: usize = c.ciphers.iter().map(|id| usize::from(id.0)).sum();
-    let methods: usize = c.comp.iter().map(|id| usize::from(id.0)).sum();
+    // by value, the form of `List` without references: `iter()` would look up each in a table
+    let ciphers: usize = c.ciphers.values().map(|id| usize::from(id.0)).sum();
+    let methods: usize = c.comp.values().map(|id| usize::from(id.0)).sum();
     usize::from(c.version.0) + c.random.len() + len(c.session_id) + ciphers + methods + len(c.ext)
 }
 
@@ -21,14 +23,22 @@ fn answer(s: &TlsServerHelloContents) -> usize {
 
 #[inline(never)]
 fn request(r: &TlsCertificateRequestContents) -> usize {
-    let types: usize = r.cert_types.iter().map(usize::from).sum();
-    let pairs: usize = r.sig_hash_algs.iter().flatten().map(usize::from).sum();
+    let types: usize = r.cert_types.values().map(usize::from).sum();
+    let pairs: usize = r.sig_hash_algs.into_iter().flatten().map(usize::from).sum();
     types + pairs + r.unparsed_ca.iter().map(|name| name.len()).sum::<usize>()
 }
 
 #[inline(never)]
 fn certificate(c: &TlsCertificateContents) -> usize {
     c.cert_chain.iter().map(|cert| cert.data.len()).sum()
+}
+
+#[inline]
+fn opened(m: &TlsMessage) -> usize {
+    match m {
+        TlsMessage::Handshake(m) => message(m),
+        _ => 0,
+    }
 }
 
 #[inline]
@@ -51,16 +61,34 @@ fn message(m: &TlsMessageHandshake) -> usize {
     }
 }
 
-#[inline(never)]
-pub fn record(i: &[u8]) -> usize {
-    let Ok((rest, record)) = parse_tls_plaintext(i) else { return usize::MAX };
-    rest.len() + usize::from(record.hdr.len) + record.msg.iter().map(|m| message(&m)).sum::<usize>()
+/// The record at the front: what is behind it, and what was seen in it.
+#[inline]
+pub fn step(i: &[u8]) -> Option<(&[u8], usize)> {
+    let (rest, record) = parse_tls_plaintext(i).ok()?;
+    Some((rest, usize::from(record.hdr.len) + record.msg.iter().map(|m| opened(&m)).sum::<usize>()))
 }
 
-/// One message after the other.
+#[inline(never)]
+pub fn record(i: &[u8]) -> usize {
+    step(i).map_or(usize::MAX, |(rest, seen)| rest.len() + seen)
+}
+
+/// One record after the other.
+#[inline(never)]
+pub fn joined(i: &[u8]) -> usize {
+    each(i, step)
+}
+
+/// One message after the other, by the list of them.
 #[inline(never)]
 pub fn walk(content: &[u8]) -> usize {
-    TlsMessages::new(content).iter().map(|m| message(&m)).sum()
+    TlsMessages::new(content).iter().map(|m| opened(&m)).sum()
+}
+
+/// One message after the other, by the reader of one.
+#[inline(never)]
+pub fn one(content: &[u8]) -> usize {
+    each(content, |i| parse_tls_message_handshake(i).ok().map(|(rest, m)| (rest, opened(&m))))
 }
 
 #[inline(never)]

@@ -1,44 +1,44 @@
-//! The times of a class, both sides in turn, and their ratio.
+//! The best times of the three sides, in turn.
 
-use crate::classes::{Class, Visit};
+use crate::classes::{Work, SIDES};
+use std::hint::black_box;
 use std::time::{Duration, Instant};
 
-/// Rounds of a class; in each one side runs right after the other.
-const ROUNDS: usize = 15;
-/// How long one side runs in a round.
-const ROUND: Duration = Duration::from_millis(20);
+/// How long one side runs in a round, at least.
+const ROUND: Duration = Duration::from_millis(1);
+/// How long one side runs in all, at least.
+const IN_ALL: Duration = Duration::from_millis(300);
+/// The fewest rounds.
+const ROUNDS: usize = 7;
 
-pub fn print(classes: &[Class]) {
-    println!("{:<22} {:>13} {:>13} {:>7} {:>7}", "class", "Norrabist ns", "tls-parser ns", "ratio", "limit");
-    for class in classes {
-        let seen = (class.run(class.norrabist), class.run(class.tls_parser));
-        assert_eq!(seen.0, seen.1, "{}: the two sides saw different things", class.name);
-        let (norrabist, tls_parser) = best(class);
-        let ratio = norrabist / tls_parser;
-        println!("{:<22} {norrabist:>13.1} {tls_parser:>13.1} {ratio:>7.3} {:>7.1}", class.name, class.limit);
-    }
-}
-
-/// The best time of each side for all inputs of the class once, in nanoseconds.
-fn best(class: &Class) -> (f64, f64) {
-    let mut best = (f64::MAX, f64::MAX);
-    for _ in 0..ROUNDS {
-        best.0 = best.0.min(once(class, class.norrabist));
-        best.1 = best.1.min(once(class, class.tls_parser));
+/// The best time of each side for all inputs once, in nanoseconds: of many short rounds, in each of
+/// which one side runs right after the other.
+pub fn best(work: &mut Work) -> [f64; SIDES.len()] {
+    let times: [u32; SIDES.len()] = std::array::from_fn(|side| enough(work, side));
+    let mut best = [f64::MAX; SIDES.len()];
+    let began = Instant::now();
+    let mut rounds = 0;
+    while rounds < ROUNDS || began.elapsed() < IN_ALL * SIDES.len() as u32 {
+        for side in 0..SIDES.len() {
+            let once = run(work, side, times[side]).as_nanos() as f64 / f64::from(times[side]);
+            best[side] = best[side].min(once);
+        }
+        rounds += 1;
     }
     best
 }
 
-fn once(class: &Class, visit: Visit) -> f64 {
-    let began = Instant::now();
-    let mut times = 0u32;
-    let mut sum = 0usize;
-    while began.elapsed() < ROUND {
-        for _ in 0..16 {
-            sum = sum.wrapping_add(class.run(visit));
-        }
-        times += 16;
+/// How often a side has to run for a round.
+fn enough(work: &mut Work, side: usize) -> u32 {
+    let mut times = 1;
+    while run(work, side, times) < ROUND {
+        times *= 2;
     }
-    std::hint::black_box(sum);
-    began.elapsed().as_nanos() as f64 / f64::from(times)
+    times
+}
+
+fn run(work: &mut Work, side: usize, times: u32) -> Duration {
+    let began = Instant::now();
+    black_box(work.run(side, times));
+    began.elapsed()
 }

@@ -1,5 +1,6 @@
 //! tls-parser's side: records and messages opened, and all that is in them visited.
 
+use crate::each;
 use tls_parser::*;
 
 fn len(part: Option<&[u8]>) -> usize {
@@ -59,22 +60,28 @@ fn opened(m: &TlsMessage) -> usize {
     }
 }
 
+/// The record at the front: what is behind it, and what was seen in it.
+#[inline]
+pub fn step(i: &[u8]) -> Option<(&[u8], usize)> {
+    let (rest, record) = parse_tls_plaintext(i).ok()?;
+    Some((rest, usize::from(record.hdr.len) + record.msg.iter().map(opened).sum::<usize>()))
+}
+
 #[inline(never)]
 pub fn record(i: &[u8]) -> usize {
-    let Ok((rest, record)) = parse_tls_plaintext(i) else { return usize::MAX };
-    rest.len() + usize::from(record.hdr.len) + record.msg.iter().map(opened).sum::<usize>()
+    step(i).map_or(usize::MAX, |(rest, seen)| rest.len() + seen)
+}
+
+/// One record after the other.
+#[inline(never)]
+pub fn joined(i: &[u8]) -> usize {
+    each(i, step)
 }
 
 /// One message after the other.
 #[inline(never)]
 pub fn walk(content: &[u8]) -> usize {
-    let mut sum = 0;
-    let mut rest = content;
-    while let Ok((after, m)) = parse_tls_message_handshake(rest) {
-        sum += opened(&m);
-        rest = after;
-    }
-    sum
+    each(content, |i| parse_tls_message_handshake(i).ok().map(|(rest, m)| (rest, opened(&m))))
 }
 
 #[inline(never)]

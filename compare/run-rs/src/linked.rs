@@ -5,7 +5,7 @@ mod support;
 
 use crate::norrabist::{Norrabist, Walk};
 use judge::case::Case;
-use norrabist::{parse_tls_plaintext, record_walk_next};
+use norrabist::{parse_tls_plaintext, record_walk_next, TlsMessageHead};
 
 pub struct Linked;
 
@@ -17,11 +17,22 @@ impl Norrabist for Linked {
 
     fn walk(&self, case: &Case) -> Walk {
         let (_, record) = parse_tls_plaintext(&case.input).expect("a record");
+        let content = record.msg.as_bytes();
+        let (mut handshakes, mut heads) = (record.msg.handshakes(), record.msg.heads());
         let (mut at, mut messages) = (0, 0);
         loop {
-            match record_walk_next(record.msg.as_bytes(), at) {
-                Ok((_, next)) => (at, messages) = (next, messages + 1),
-                Err(end) => return Walk { messages, end: end.number().into(), dropped: record.dropped() },
+            let (message, head) = (handshakes.next(), heads.next());
+            match record_walk_next(content, at) {
+                Ok((walked, next)) => {
+                    let (kind, body) = (walked.handshake_type(), &content[at + 4..next]);
+                    assert_eq!(head, Some(TlsMessageHead { kind, body }), "the head at {at}");
+                    assert_eq!(message, Some(walked), "the message at {at}");
+                    (at, messages) = (next, messages + 1);
+                }
+                Err(end) => {
+                    assert!(message.is_none() && head.is_none(), "a message at {at}, where the walk ends");
+                    return Walk { messages, end: end.number().into(), dropped: record.dropped() };
+                }
             }
         }
     }
