@@ -33,13 +33,7 @@ use Rattle.read_others.specs.Body.{nextProtocol}
 use Rattle.read_others.specs.declared.next_protocol.TlsNextProtocolContent.{TlsNextProtocolContent}
 use Rattle.read_others.proofs.Whole.{splits-next-protocol}
 use Rattle.norrabist_c.specs.Parts.{optTold}
-
-pub made : {C : Type 0} (k : Form C) (s : List ℕ) → BySplit k s → {c : C} → reading k s ≡ accepted c
-    → c ≡ valueOf k s (handedOf (k .grammar) (pieces k s c))
-made k s d {c} e =
-    let q : accepted c ≡ accepted (valueOf k s (handedOf (k .grammar) (pieces k s c))) = sym e
-    ∙ d .accepts (pieces k s c) (d .splits c e) in
-    cc
+use Rattle.norrabist_c.proofs.HelloLengths.{made}
 
 module _ (s : List ℕ) (b : Bytes s) {c : TlsCertificateContents} (e : reading certificate s ≡ accepted c) where
   pub chain-len : c .«cert_chain» .len < 16777216
@@ -47,7 +41,7 @@ module _ (s : List ℕ) (b : Bytes s) {c : TlsCertificateContents} (e : reading 
   chain-len =
       let d = splits-certificate s b in
       let l : c .«cert_chain» .len ≡ length (partOf s (c .«cert_chain»)) =
-      ap (λ (x : TlsCertificateContents). x .«cert_chain» .len) (made certificate s d e) in
+      ap (λ (x : TlsCertificateContents). x .«cert_chain» .len) (made d e) in
       omega (arith, l, d .splits c e .obey .0 .0)
 
 module _ (s : List ℕ) (b : Bytes s) {c : TlsCertificateStatusContents} (e : reading status s ≡ accepted c) where
@@ -56,7 +50,7 @@ module _ (s : List ℕ) (b : Bytes s) {c : TlsCertificateStatusContents} (e : re
   blob-len =
       let d = splits-status s b in
       let l : c .blob .len ≡ length (partOf s (c .blob)) =
-      ap (λ (x : TlsCertificateStatusContents). x .blob .len) (made status s d e) in
+      ap (λ (x : TlsCertificateStatusContents). x .blob .len) (made d e) in
       omega (arith, l, d .splits c e .obey .1 .0 .0)
 
 module _ (s : List ℕ) (b : Bytes s) {c : TlsNextProtocolContent} (e : reading nextProtocol s ≡ accepted c) where
@@ -65,7 +59,7 @@ module _ (s : List ℕ) (b : Bytes s) {c : TlsNextProtocolContent} (e : reading 
   protocol-len =
       let d = splits-next-protocol s b in
       let l : c .«selected_protocol» .len ≡ length (partOf s (c .«selected_protocol»)) =
-      ap (λ (x : TlsNextProtocolContent). x .«selected_protocol» .len) (made nextProtocol s d e) in
+      ap (λ (x : TlsNextProtocolContent). x .«selected_protocol» .len) (made d e) in
       omega (arith, l, d .splits c e .obey .0 .0)
 
   pub padding-len : c .padding .len < 256
@@ -73,7 +67,7 @@ module _ (s : List ℕ) (b : Bytes s) {c : TlsNextProtocolContent} (e : reading 
   padding-len =
       let d = splits-next-protocol s b in
       let l : c .padding .len ≡ length (partOf s (c .padding)) =
-      ap (λ (x : TlsNextProtocolContent). x .padding .len) (made nextProtocol s d e) in
+      ap (λ (x : TlsNextProtocolContent). x .padding .len) (made d e) in
       omega (arith, l, d .splits c e .obey .1 .0 .0)
 
 -- a request is read by one of its forms
@@ -96,7 +90,7 @@ module _ (long : Bool) (s : List ℕ) (b : Bytes s) {c : TlsCertificateRequestCo
   form-types =
       let d = splits-request long s b in
       let l : c .«cert_types» .len ≡ length (partOf s (c .«cert_types»)) =
-      ap (λ (x : TlsCertificateRequestContents). x .«cert_types» .len) (made (request long) s d e) in
+      ap (λ (x : TlsCertificateRequestContents). x .«cert_types» .len) (made d e) in
       omega (arith, l, d .splits c e .obey .0 .0)
 
   form-names : c .«unparsed_ca» .len < 65536
@@ -104,7 +98,7 @@ module _ (long : Bool) (s : List ℕ) (b : Bytes s) {c : TlsCertificateRequestCo
   form-names =
       let d = splits-request long s b in
       let l : c .«unparsed_ca» .len ≡ length (partOf s (c .«unparsed_ca»)) =
-      ap (λ (x : TlsCertificateRequestContents). x .«unparsed_ca» .len) (made (request long) s d e) in
+      ap (λ (x : TlsCertificateRequestContents). x .«unparsed_ca» .len) (made d e) in
       omega (arith, l, d .splits c e .obey .1 .1 .0 .0)
 
 -- by the long form there are pairs, by the short one none
@@ -114,7 +108,7 @@ module _ (s : List ℕ) (b : Bytes s) {c : TlsCertificateRequestContents} where
   form-pairs e =
       let d = splits-request true s b in
       let l : optTold (c .«sig_hash_algs») .len ≡ length (optPartOf s (c .«sig_hash_algs»)) =
-      ap (λ (x : TlsCertificateRequestContents). optTold (x .«sig_hash_algs») .len) (made (request true) s d e) in
+      ap (λ (x : TlsCertificateRequestContents). optTold (x .«sig_hash_algs») .len) (made d e) in
       omega (arith, l, d .splits c e .obey .1 .0 .0)
 
   pub no-pairs : reading (request false) s ≡ accepted c → c .«sig_hash_algs» ≡ Absent
@@ -122,7 +116,7 @@ module _ (s : List ℕ) (b : Bytes s) {c : TlsCertificateRequestContents} where
   no-pairs e =
       let d = splits-request false s b in
       let o : length (optPartOf s (c .«sig_hash_algs»)) ≡ 0 = d .splits c e .obey .1 .0 in
-      ap (λ (x : TlsCertificateRequestContents). x .«sig_hash_algs») (made (request false) s d e) ∙ rw o
+      ap (λ (x : TlsCertificateRequestContents). x .«sig_hash_algs») (made d e) ∙ rw o
 
   module _ (e : certificateRequest s ≡ accepted c) where
     pub types-len : c .«cert_types» .len < 256

@@ -68,16 +68,7 @@ draft18Told (accepted c) =
       «has_ext» = optTold (c .ext) .present;
       number = 0;
     }
-draft18Told (refused r) =
-    record {
-      version = 0;
-      cipher = 0;
-      ext = 0;
-      compression = 0;
-      «session_id» = 0;
-      «has_ext» = false;
-      number = numberOf (r .reason);
-    }
+draft18Told (refused r) = serverTold (refused r)
 
 abbrev pub retryTold : Answer TlsHelloRetryRequestContents → HelloRetryRequestTold
 retryTold (accepted c) =
