@@ -1,6 +1,8 @@
-# Sourced by judge, record, run and the bench, with $here this folder and usage a function that ends
-# the script: puts tls-parser 0.12.2 together from its published sources, unchanged, and builds
-# programs over it. All that is fetched or built lies in $work; a second call reuses it.
+# Sourced by judge, record, run, swap and the bench, with $here this folder, $me the name that the
+# script's lines begin with and usage a function that ends it: puts tls-parser 0.12.2 together from
+# its published sources, unchanged, and builds programs over it. All that is fetched or built lies
+# in $work; a second call reuses it.
+. "$here/../tools/tools.sh"
 work=$(dirname "$here")/target/judge
 registry=$work/registry
 base=$registry/tls-parser-0.11.0
@@ -16,27 +18,33 @@ packages="tls-parser nom nom-derive nom-derive-impl rusticata-macros cookie-fact
 find_sources() {
     src=${1:-${TLS_PARSER_SRC:-}}
     if [ -z "$src" ]; then
-        echo "TLS_PARSER_SRC is not set: the folder with src/*.rs of tls-parser 0.12.2" >&2
+        say "TLS_PARSER_SRC is not set: set it to the folder with src/*.rs of tls-parser 0.12.2 (compare/README.md)"
         usage
     fi
     [ ! -f "$src/src/tls_handshake.rs" ] || src=$src/src
-    [ -f "$src/tls_handshake.rs" ] || { echo "no sources of tls-parser in $src" >&2; usage; }
+    [ -f "$src/tls_handshake.rs" ] || { say "no sources of tls-parser, tls_handshake.rs and the others, in '$src'"; usage; }
     src=$(cd "$src" && pwd -P)
 }
 
-# need TOOL..: ends the script where one is not there.
-need() {
-    local tool
-    for tool in "$@"; do
-        command -v "$tool" >/dev/null || { echo "$tool is not there" >&2; exit 2; }
-    done
+# find_tools [--archive] TOOL..: looks for all that build takes, for what rust/archive takes now,
+# where Norrabist's archive is linked, and for the tools named, and shows where they are.
+find_tools() {
+    local fetched="" made=""
+    [ -f "$work/versions.txt" ] || fetched="apt-get dpkg"
+    if [ "${1:-}" = --archive ]; then
+        shift
+        if [ -z "${NORRABIST_LIB:-}" ]; then
+            made=$("$root/rust/archive" --needs)
+        elif [ ! -f "$NORRABIST_LIB/libnorrabist_c.a" ]; then
+            wrong "no libnorrabist_c.a in '$NORRABIST_LIB', which NORRABIST_LIB names: unset it, or name a folder that has one"
+        fi
+    fi
+    need $made cargo rustc cc $fetched cmp flock "$@"
 }
 
 # Norrabist's archive: that of $NORRABIST_LIB, or the one that rust/archive makes. It is named by
 # its path, so that cargo takes none that another tree has built.
 find_archive() {
-    local root
-    root=$(dirname "$here")
     [ -n "${NORRABIST_LIB:-}" ] || "$root/rust/archive"
     NORRABIST_LIB=$(cd "${NORRABIST_LIB:-$root/target/native}" && pwd -P)
     export NORRABIST_LIB
@@ -45,7 +53,7 @@ find_archive() {
 # Downloads the packages and unpacks them into a cargo directory source.
 fetch() {
     local names=() p d
-    need apt-get dpkg
+    say "fetching the packages that tls-parser needs"
     for p in $packages; do names+=("librust-$p-dev"); done
     rm -rf "$work/debs" "$work/root" "$registry"
     mkdir -p "$work/debs" "$work/root"
@@ -89,7 +97,6 @@ cipher_build() {
 # not said. One build at a time, as the commands may stand in one pipe. JOBS sets the number of
 # cargo jobs.
 build() {
-    need cargo cmp flock
     mkdir -p "$work"
     exec 9>"$work/lock"
     flock 9
