@@ -1,113 +1,141 @@
-// The messages of a handshake record, whose content lies where `content` says in the input `s`.
-use crate::body_lines;
-use crate::hello_lines;
-use crate::say;
-use norrabist::HeadAnswer;
-use norrabist::MessageAnswer;
-use norrabist::TlsMessageHandshake;
-use norrabist::TlsMessageHead;
-use norrabist::View;
+// The messages of a handshake record, whose content begins at `from` in the input.
+use crate::owed;
+use envelope::HeadAnswer;
+use envelope::TlsMessageHead;
+use look_words::amount;
+use look_words::count;
+use look_words::extent;
+use look_words::number;
+use look_words::say_handshake_type;
+use look_words::say_reason;
+use look_words::text;
+use message::handshake::MessageAnswer;
+use refusal::Refusal;
+use wire::number::NumberAnswer;
+use wire::number::Width;
+use wire::view::part_of;
+use wire::view::rest_of;
 
-// What the message is and what it says; its body lies at `body`.
-fn say_body(m: TlsMessageHandshake, s: &[u8], body: View) {
-    match m {
-        TlsMessageHandshake::HelloRequest => say::kind(b"HelloRequest", body),
-        TlsMessageHandshake::ClientHello(c) => hello_lines::client(c, s, body),
-        TlsMessageHandshake::ServerHello(c) => hello_lines::server(c, s, body),
-        TlsMessageHandshake::ServerHelloV13Draft18(c) => hello_lines::draft18(c, s, body),
-        TlsMessageHandshake::NewSessionTicket(c) => body_lines::ticket(c, s, body),
-        TlsMessageHandshake::EndOfEarlyData => say::kind(b"EndOfEarlyData", body),
-        TlsMessageHandshake::HelloRetryRequest(c) => hello_lines::retry(c, s, body),
-        TlsMessageHandshake::Certificate(c) => body_lines::certificate(c, s, body),
-        TlsMessageHandshake::ServerKeyExchange(c) => {
-            body_lines::whole(b"ServerKeyExchange", c.parameters, s, body)
+// A message that announces more bytes than `here`, by `lack`.
+fn goes_on(announced: usize, here: usize, lack: usize) {
+    text(b"  the message announces ");
+    count(announced, b" byte");
+    if lack > owed::BELIEVED {
+        text(b", which is not believed: the record may be encrypted\n");
+        return;
+    }
+    text(b" and ");
+    amount(here);
+    text(b" are here: it goes on in the next record\n");
+}
+
+// A message whose body is here whole, and too short for what is in it.
+fn ends_early(r: Refusal, announced: usize) {
+    if refusal::refusal_number(r) > 2 {
+        return;
+    }
+    text(b"  its body of ");
+    count(announced, b" byte");
+    text(b" ends before its fields do\n");
+}
+
+// Why a message is not read, of which Incomplete or Complete does not tell enough.
+fn say_why(r: Refusal, message: &[u8]) {
+    match wire::number::parse_be(message, 1, Width::Three) {
+        NumberAnswer::Refused(_) => {
+            text(b"  here are ");
+            number(message.len());
+            text(
+                b" of the 4 bytes of a message's head: the next record, where it goes on, is read from its front\n",
+            );
         }
-        TlsMessageHandshake::CertificateRequest(c) => body_lines::request(c, s, body),
-        TlsMessageHandshake::ServerDone(v) => body_lines::whole(b"ServerHelloDone", v, s, body),
-        TlsMessageHandshake::CertificateVerify(v) => {
-            body_lines::whole(b"CertificateVerify", v, s, body)
+        NumberAnswer::Got(n) => {
+            let here = rest_of(message, 4).len();
+            if here < n.value {
+                goes_on(n.value, here, n.value - here);
+            } else {
+                ends_early(r, n.value);
+            }
         }
-        TlsMessageHandshake::ClientKeyExchange(k) => body_lines::exchange(k, s, body),
-        TlsMessageHandshake::Finished(v) => body_lines::whole(b"Finished", v, s, body),
-        TlsMessageHandshake::CertificateStatus(c) => body_lines::status(c, s, body),
-        TlsMessageHandshake::NextProtocol(c) => body_lines::next_protocol(c, s, body),
-        TlsMessageHandshake::KeyUpdate(b) => body_lines::key_update(b, body),
+    }
+}
+
+// What a message that is refused begins as, and why it is not read. Nothing where there is no byte
+// of it.
+pub(crate) fn say_refused(r: Refusal, message: &[u8]) {
+    if let NumberAnswer::Got(n) = wire::number::parse_be(message, 0, Width::One) {
+        if n.value < 256 {
+            text(b"  it begins as ");
+            say_handshake_type(n.value as u8);
+            text(b"\n");
+            say_why(r, message);
+        }
     }
 }
 
 // What the body's reader left over; nothing where that is none.
-fn say_tail(tail: usize, s: &[u8], body: View) {
+fn say_tail(tail: usize, body: &[u8], from: usize) {
     if tail == 0 {
         return;
     }
-    if body.len < tail {
+    if body.len() < tail {
         return;
     }
-    let start = body.len - tail;
-    say::text(b"    tail ");
-    say::extent(record_joined::view_in(s, body, View { start, len: tail }));
-    say::text(b"\n");
+    text(b"    tail");
+    extent(from, body.len() - tail, tail);
+    text(b"\n");
 }
 
-fn say_opened(m: TlsMessageHandshake, s: &[u8], body: View) {
-    say_body(m, s, body);
-    say_tail(m.rest(norrabist::part_of(s, body)).len(), s, body);
-}
-
-fn say_place(number: usize, v: View) {
-    say::text(b"  message ");
-    say::number(number);
-    say::text(b" at ");
-    say::number(v.start);
-    say::text(b": ");
-}
-
-// Tells the message that begins at `at` in the content. None that was counted is refused.
-fn say_message(number: usize, at: usize, head: TlsMessageHead, s: &[u8], content: View) {
-    let body = record_joined::view_in(s, content, head.body);
-    match norrabist::parse_tls_handshake_body(head.msg_type, norrabist::part_of(s, body)) {
+// Tells what a message says. None that was counted is refused.
+fn say_opened(msg_type: u8, body: &[u8], from: usize) {
+    match envelope::parse_tls_handshake_body(msg_type, body) {
         MessageAnswer::Refused(_) => {}
         MessageAnswer::Got(m) => {
-            say_place(
-                number,
-                record_joined::view_in(s, content, View { start: at, len: 0 }),
-            );
-            say_opened(m, s, body);
+            look_bodies::say_body(m, body, from);
+            say_tail(m.rest(body).len(), body, from);
         }
     }
+}
+
+// Tells the message that begins at `at` in the content.
+fn say_message(k: usize, at: usize, head: TlsMessageHead, content: &[u8], from: usize) {
+    let body = head.body;
+    text(b"  message ");
+    number(k);
+    text(b" at ");
+    number(std::num::wrapping_add_usize(from, at));
+    text(b": ");
+    say_opened(
+        head.msg_type,
+        part_of(content, body),
+        std::num::wrapping_add_usize(from, body.start),
+    );
 }
 
 // The bytes behind the last message, with why they hold none; nothing where there are none.
-fn say_dropped(s: &[u8], content: View, dropped: usize, end: usize) {
-    if dropped == 0 {
-        return;
-    }
-    let HeadAnswer::Refused(r) = norrabist::meet_tls_message(norrabist::part_of(s, content), end)
-    else {
+fn say_dropped(end: usize, content: &[u8], from: usize) {
+    let message = rest_of(content, end);
+    let HeadAnswer::Refused(r) = record_walk::meet_tls_message(content, end) else {
         return;
     };
-    say::text(b"  dropped ");
-    say::extent(record_joined::view_in(
-        s,
-        content,
-        View {
-            start: end,
-            len: dropped,
-        },
-    ));
-    say::text(b", refused: ");
-    say::refusal(r);
+    if message.len() == 0 {
+        return;
+    }
+    text(b"  dropped");
+    extent(from, end, message.len());
+    text(b", refused: ");
+    say_reason(r);
+    say_refused(r, message);
 }
 
-// As many messages as were counted, and the bytes that hold none.
-pub(crate) fn say_messages(s: &[u8], content: View, count: usize, dropped: usize) {
-    let messages = norrabist::part_of(s, content);
+// Tells as many messages as were counted, and the bytes behind them.
+pub(crate) fn say_messages(all: usize, content: &[u8], from: usize) {
     let mut at: usize = 0;
-    for k in 0..count {
-        if let HeadAnswer::Got(head) = norrabist::parse_tls_message_head(messages, at) {
-            say_message(k + 1, at, head, s, content);
+    for k in 0..all {
+        if let HeadAnswer::Got(head) = envelope::parse_tls_message_head(content, at) {
+            say_message(k + 1, at, head, content, from);
             at = head.next;
         }
     }
-    say_dropped(s, content, dropped, at);
+    say_dropped(at, content, from);
 }

@@ -1,115 +1,174 @@
-// The records of the input, from one to the next.
+// The records of the input, one line for each, and what it holds.
+ghost use mathlib.Core.Path.{_≡_};
+ghost use Rattle.look.specs.Sums.{sum};
 use crate::messages;
-use crate::say;
-use norrabist::PlaintextAnswer;
-use norrabist::RawRecordAnswer;
-use norrabist::RecordHeaderAnswer;
-use norrabist::Refusal;
-use norrabist::TlsRawRecord;
-use norrabist::TlsRecordHeader;
-use norrabist::View;
-
-fn say_type(record_type: u8) {
-    match record_type {
-        registry::record::CHANGE_CIPHER_SPEC => say::text(b"ChangeCipherSpec"),
-        registry::record::ALERT => say::text(b"Alert"),
-        registry::record::HANDSHAKE => say::text(b"Handshake"),
-        registry::record::APPLICATION_DATA => say::text(b"ApplicationData"),
-        registry::record::HEARTBEAT => say::text(b"Heartbeat"),
-        _ => {
-            say::text(b"type 0x");
-            say::hex(record_type as usize, 2);
-        }
-    }
-}
+use look_words::count;
+use look_words::extent;
+use look_words::number;
+use look_words::say_reason;
+use look_words::say_record_type;
+use look_words::say_version;
+use look_words::text;
+use record::RawRecordAnswer;
+use record::RecordHeaderAnswer;
+use record::TlsRawRecord;
+use record::TlsRecordHeader;
+use record_open::PlaintextAnswer;
+use refusal::Reason;
+use refusal::Refusal;
+use wire::view::View;
+use wire::view::part_of;
+use wire::view::rest_of;
 
 fn say_header(h: TlsRecordHeader) {
-    say_type(h.record_type);
-    say::text(b", version ");
-    say::hex(h.version as usize, 4);
-    say::text(b", ");
-    say::count(h.len as usize, b"byte");
-    say::text(b"\n");
+    say_record_type(h.record_type);
+    text(b", version ");
+    say_version(h.version as usize);
+    text(b", ");
+    count(h.len as usize, b" byte");
+    text(b"\n");
 }
 
-// A record that is whole and not opened: known and left to others, or refused.
-fn say_closed(r: Refusal) {
-    if norrabist::refusal_number(r) == 10 {
-        say::text(b"  not opened: ");
-    } else {
-        say::text(b"  refused: ");
+// A record that is whole and not opened: known and left to others, or refused, of a handshake
+// record for its first message.
+fn say_closed(r: Refusal, h: TlsRecordHeader, content: &[u8]) {
+    let reason = r.reason;
+    match reason {
+        Reason::Elsewhere => text(b"  not opened: "),
+        _ => text(b"  refused: "),
     }
-    say::refusal(r);
+    say_reason(r);
+    if h.record_type == registry::record::HANDSHAKE {
+        messages::say_refused(r, content);
+    }
 }
 
-// Opens the record that begins at `at`.
-fn say_opened(s: &[u8], at: usize, content: View) {
-    match norrabist::parse_tls_plaintext(norrabist::rest_of(s, at)) {
-        PlaintextAnswer::Refused(r) => say_closed(r),
+// What a record holds, whose content begins at `from` in the input.
+fn say_answer(answer: PlaintextAnswer, h: TlsRecordHeader, content: &[u8], from: usize) {
+    match answer {
+        PlaintextAnswer::Refused(r) => say_closed(r, h, content),
         PlaintextAnswer::Got(p) => {
-            say::text(b"  ");
-            say::count(p.count, b"message");
-            say::text(b"\n");
-            messages::say_messages(s, content, p.count, p.dropped);
+            text(b"  ");
+            count(p.count, b" message");
+            text(b"\n");
+            messages::say_messages(p.count, content, from);
         }
     }
 }
 
-// A whole record, which begins at `at`.
-fn say_record(number: usize, at: usize, record: TlsRawRecord, s: &[u8]) {
-    say::text(b"record ");
-    say::number(number);
-    say::text(b" at ");
-    say::number(at);
-    say::text(b": ");
-    say_header(record.hdr);
-    say_opened(s, at, record.data);
+// The messages behind the bytes of a message begun before their record; nothing where there is no
+// byte of them.
+fn say_own(own: &[u8], from: usize) {
+    if own.len() == 0 {
+        return;
+    }
+    let all = record_walk::count_messages(own, 0);
+    text(b"  and has ");
+    count(all.count, b" message");
+    text(b" behind it\n");
+    messages::say_messages(all.count, own, from);
 }
 
-// As many records as were counted.
-fn say_records(s: &[u8], count: usize) {
-    let mut at: usize = 0;
-    for k in 0..count {
-        if let RawRecordAnswer::Got(record) = record_joined::record_from(s, at) {
-            say_record(k + 1, at, record, s);
-            at = record.next;
+// What a record holds that goes on with a message begun before it: its first `passed` bytes belong
+// to that, or all of it.
+fn say_continued(passed: usize, content: &[u8], from: usize) {
+    text(b"  goes on with the message begun before, which lacked ");
+    count(passed, b" byte");
+    text(b"\n");
+    if content.len() < passed {
+        text(b"  and lacks ");
+        count(passed - content.len(), b" byte");
+        text(b" still\n");
+        return;
+    }
+    say_own(
+        rest_of(content, passed),
+        std::num::wrapping_add_usize(from, passed),
+    );
+}
+
+fn say_content(h: TlsRecordHeader, record: &[u8], content: &[u8], from: usize, passed: usize) {
+    if passed != 0 {
+        say_continued(passed, content, from);
+        return;
+    }
+    say_answer(record_open::parse_tls_plaintext(record), h, content, from);
+}
+
+// Tells the whole record `r`, which begins at `place` in the input and is first of `record`; `k`
+// records stand before it, and `passed` of its bytes belong to a message begun in one of them.
+pub(crate) fn say_record(r: TlsRawRecord, record: &[u8], k: usize, place: usize, passed: usize) {
+    let hdr = r.hdr;
+    text(b"record ");
+    number(std::num::wrapping_add_usize(k, 1));
+    text(b" at ");
+    number(place);
+    text(b": ");
+    say_header(hdr);
+    let content = View {
+        start: 5,
+        len: hdr.len as usize,
+    };
+    let from = std::num::wrapping_add_usize(place, 5);
+    say_content(hdr, record, part_of(record, content), from, passed);
+}
+
+// The place behind a record that begins at `place`: its header has five bytes.
+pub(crate) fn behind(r: TlsRawRecord, place: usize) -> usize
+    ensures { λ n. ⌜ n ≡ sum (sum place 5) (r .«data» .len) ⌝ }
+{
+    let data = r.data;
+    std::num::wrapping_add_usize(std::num::wrapping_add_usize(place, 5), data.len)
+}
+
+// The header of what is left, and what a type that no record of TLS has may mean.
+fn say_left_header(h: TlsRecordHeader) {
+    text(b"  its header: ");
+    say_header(h);
+    match h.record_type {
+        registry::record::CHANGE_CIPHER_SPEC..=registry::record::HEARTBEAT => {}
+        _ => text(b"  no record of TLS has this type: is the input joined records?\n"),
+    }
+}
+
+// Why there is no whole record; a record that no window can hold is told.
+fn say_why(r: Refusal) {
+    text(b", refused: ");
+    say_reason(r);
+    let reason = r.reason;
+    match reason {
+        Reason::TooLarge => {
+            text(
+                b"  it announces more than the 16,640 bytes that a record may have: where the next begins is not known\n",
+            )
         }
+        _ => text(b"  the input ends before the record does\n"),
     }
 }
 
 // What lies behind the last whole record; nothing where there is nothing.
-fn say_left(rest: &[u8], at: usize) {
-    let len = rest.len();
-    if len == 0 {
+pub(crate) fn say_left(rest: &[u8], place: usize) {
+    if rest.len() == 0 {
         return;
     }
-    let RawRecordAnswer::Refused(r) = norrabist::parse_tls_raw_record(rest) else {
+    let RawRecordAnswer::Refused(r) = record::parse_tls_raw_record(rest) else {
         return;
     };
-    say::text(b"left over ");
-    say::extent(View { start: at, len });
-    say::text(b", refused: ");
-    say::refusal(r);
-    if let RecordHeaderAnswer::Got(h) = norrabist::parse_tls_record_header(rest) {
-        say::text(b"  its header: ");
-        say_header(h);
+    text(b"left over");
+    extent(place, 0, rest.len());
+    say_why(r);
+    if let RecordHeaderAnswer::Got(h) = record::parse_tls_record_header(rest) {
+        say_left_header(h);
     }
-    say::text(b"  reading ends here\n");
+    text(b"  reading ends here\n");
 }
 
-pub(crate) fn look(s: &[u8]) {
-    if s.len() == 0 {
-        say::text(b"no record: the input is empty\n");
+// A message that the last records begin and do not end; nothing where there is none.
+pub(crate) fn say_owed(owed: usize) {
+    if owed == 0 {
+        return;
     }
-    let all = record_joined::count_records(s);
-    say_records(s, all.records);
-    let rest = norrabist::rest_of(s, all.end);
-    say_left(rest, all.end);
-    say::text(b"in all: ");
-    say::count(all.records, b"record");
-    say::text(b", ");
-    say::count(all.messages, b"message");
-    say::text(b", ");
-    say::count(rest.len(), b"byte");
-    say::text(b" left over\n");
+    text(b"the message begun last lacks ");
+    count(owed, b" byte");
+    text(b" still\n");
 }

@@ -5,13 +5,10 @@ use Rattle.look.proofs.messages.say_messages.Statement.{statement}
 use Rattle.look.proofs.messages.say_messages.Tie as tie
 
 abbrev Inv-loop : tie.InvT-loop
-Inv-loop s content count dropped messages at₀ k₀ at k = Unit
+Inv-loop all content from at₀ k₀ at k = Unit
 
 abbrev μ-loop : tie.MeasureT-loop
-μ-loop s content count dropped messages at₀ k₀ at k = count - k
-
-part-of-requires : tie.Need-part-of-requires Inv-loop μ-loop
-part-of-requires c κs = search needs
+μ-loop all content from at₀ k₀ at k = all - k
 
 loop-holds : tie.Need-loop-holds Inv-loop μ-loop
 loop-holds c = search needs
@@ -52,7 +49,6 @@ say-messages-spec =
     (tie.spec
     Inv-loop
     μ-loop
-    part-of-requires
     loop-holds
     parse-tls-message-head-requires
     enum-known-head
