@@ -3,10 +3,10 @@
  * C++. A port of parts of tls-parser 0.12.2. RULES is docs/RULES.md of its tree.
  *
  * Link libnorrabist_c.a, which `rust/archive` makes, or which a release has for x86-64 and for Arm
- * (aarch64). The example look.c is built so, in the tree and in a release:
+ * (aarch64). The example records.c is built so, in the tree and in a release:
  *
- *     cc -I rust rust/examples/look.c target/native/libnorrabist_c.a -o look
- *     cc -I include examples/look.c lib/$(uname -m)/libnorrabist_c.a -o look
+ *     cc -I rust rust/examples/records.c target/native/libnorrabist_c.a -o records
+ *     cc -I include examples/records.c lib/$(uname -m)/libnorrabist_c.a -o records
  *
  * Every pointer goes with the length behind it, in bytes; it may not be null, even where that is 0.
  * What is lent to be written may overlap nothing else that is lent. No function keeps a pointer,

@@ -1,67 +1,23 @@
 //! `norrabist.h` declares what the archive exports, function by function and field by field, has
 //! the names of the table of refusals, and compiles in C and in C++ without a warning, links and
-//! answers; so does the example in C.
+//! answers.
 
+#[path = "support/programs.rs"]
+mod programs;
 #[path = "support/rattle.rs"]
 mod rattle;
 
+use programs::{compiled, printed, HERE, LANGUAGES};
 use rattle::{text, Typed};
-use std::path::{Path, PathBuf};
-use std::process::{Command, Stdio};
-
-const HERE: &str = env!("CARGO_MANIFEST_DIR");
-
-/// Compilers and the oldest languages that the header is for, and one that has static assertions.
-const LANGUAGES: [&[&str]; 3] =
-    [&["cc", "-std=c99"], &["cc", "-std=c11"], &["c++", "-std=c++11", "-x", "c++"]];
-
-/// Compiles a C program in one of the languages, with the archive; where it is.
-fn compiled(source: &str, language: &[&str]) -> PathBuf {
-    let name = [&[source], language].concat().join("-").replace(['/', '='], "-");
-    let program = Path::new(env!("CARGO_TARGET_TMPDIR")).join(name);
-    let archive = env!("NORRABIST_ARCHIVE");
-    let done = Command::new(language[0])
-        .args(["-Wall", "-Wextra", "-pedantic", "-Werror", "-I", HERE])
-        .args(&language[1..])
-        .arg(Path::new(HERE).join(source))
-        .args(["-x", "none", archive, "-o"])
-        .arg(&program)
-        .output()
-        .unwrap_or_else(|e| panic!("this test needs `{}`, which cannot be run: {e}", language[0]));
-    assert!(done.status.success(), "{language:?}: {}", String::from_utf8_lossy(&done.stderr));
-    program
-}
-
-/// What a program prints of a file on standard input, where it ends well.
-fn printed(program: &Path, input: Stdio) -> String {
-    let ran = Command::new(program).stdin(input).output().expect("the program");
-    let said = String::from_utf8_lossy(&ran.stdout).into_owned();
-    assert!(ran.status.success(), "{} ended with {}: {said}", program.display(), ran.status);
-    said
-}
+use std::path::Path;
+use std::process::Stdio;
 
 #[test]
 fn every_function_answers_in_c_and_in_cpp() {
     for language in LANGUAGES {
-        let said = printed(&compiled("tests/header.c", language), Stdio::null());
+        let said = printed(&compiled("tests/header.c", language), &[], Stdio::null());
         let version = format!("version {}: ", env!("CARGO_PKG_VERSION"));
         assert!(said.starts_with(&version) && said.ends_with(" facts hold\n"), "{said}");
-    }
-}
-
-#[test]
-fn the_example_prints_messages_ciphers_and_refusals() {
-    for language in LANGUAGES {
-        let program = compiled("examples/look.c", language);
-        let look = |name: &str| {
-            let path = Path::new(HERE).join("../crates/look").join(name);
-            printed(&program, std::fs::File::open(path).expect("recorded bytes").into())
-        };
-        let (whole, cut) = (look("handshake"), look("cut"));
-        assert!(whole.contains("28 ciphers: c02c c030 009f "), "{whole}");
-        assert!(whole.contains("\n  Certificate, 393 bytes\n"), "{whole}");
-        assert!(whole.contains("refused, Elsewhere (10)\n"), "{whole}");
-        assert!(cut.contains("extensions absent, and 102 bytes follow\n"), "{cut}");
     }
 }
 

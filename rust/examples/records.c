@@ -1,13 +1,26 @@
 /*
- * Prints the records and messages of bytes on standard input: joined records, as they are on the
- * wire. Of each message its type, of a ClientHello its ciphers too; a refusal by its name.
+ * Prints the records and messages of joined records, as they are on the wire: of each message its
+ * type, of a ClientHello its ciphers too; a refusal by its name. `records.rs` prints the same.
  *
- *     cc -I rust rust/examples/look.c target/native/libnorrabist_c.a -o look
- *     ./look < crates/look/handshake
+ *     cc -I rust rust/examples/records.c target/native/libnorrabist_c.a -o records
+ *     ./records crates/look/handshake
+ *     ./records < crates/look/handshake
+ *     ./records --sample    (a ClientHello whose extension block is cut off)
  */
+#define _POSIX_C_SOURCE 200809L
 #include "norrabist.h"
+#include <ctype.h>
 #include <stdio.h>
 #include <stdlib.h>
+#include <string.h>
+#include <unistd.h>
+
+static const uint8_t sample[] = {
+    0x16, 0x03, 0x01, 0x00, 0x37, 0x01, 0x00, 0x00, 0x33, 0x03, 0x03,
+    0xfd, 0x42, 0x9e, 0x16, 0x30, 0xd2, 0x25, 0x3a, 0x7c, 0x0f, 0x4c, 0x0a, 0xa3, 0x62, 0xaf, 0xc1,
+    0xa0, 0x36, 0x91, 0x6b, 0x52, 0x20, 0x14, 0x0e, 0x46, 0x98, 0x5c, 0x6b, 0x73, 0x02, 0xcd, 0xe9,
+    0x00, 0x00, 0x06, 0xc0, 0x2c, 0xc0, 0x30, 0x00, 0x9f, 0x01, 0x00, 0x00, 0x6e, 0x00, 0x00, 0x00,
+    0x0f};
 
 /* The name of a message's type: one that the heads have told is listed. */
 static const char *type_name(uint8_t msg_type) {
@@ -85,26 +98,9 @@ static void record(const uint8_t *left, size_t left_len) {
     messages(content, tally.end);
 }
 
-/* All of standard input, in `*bytes`; how many bytes that is. Ends where there is no memory. */
-static size_t input(uint8_t **bytes) {
-    size_t len = 0, room = 1 << 16, got;
-
-    *bytes = (uint8_t *)malloc(room);
-    while (*bytes && (got = fread(*bytes + len, 1, room - len, stdin)) > 0) {
-        len += got;
-        if (len == room)
-            *bytes = (uint8_t *)realloc(*bytes, room *= 2);
-    }
-    if (!*bytes || ferror(stdin)) {
-        fputs("look: standard input cannot be read\n", stderr);
-        exit(1);
-    }
-    return len;
-}
-
-int main(void) {
-    uint8_t *bytes;
-    size_t len = input(&bytes), at = 0;
+/* The records of joined bytes, one behind the other. */
+static void records(const uint8_t *bytes, size_t len) {
+    size_t at = 0;
 
     while (at < len) {
         norrabist_record_head_told whole = norrabist_parse_tls_raw_record(bytes + at, len - at);
@@ -115,6 +111,67 @@ int main(void) {
             break;
         at += norrabist_record_head_next(whole);
     }
+}
+
+/* All of a file, in `*bytes`; how many bytes that is. Ends where it cannot be read, or there is no
+   memory. */
+static size_t input(FILE *file, uint8_t **bytes) {
+    size_t len = 0, room = 1 << 16, got;
+
+    *bytes = file ? (uint8_t *)malloc(room) : NULL;
+    while (*bytes && (got = fread(*bytes + len, 1, room - len, file)) > 0) {
+        len += got;
+        if (len == room)
+            *bytes = (uint8_t *)realloc(*bytes, room *= 2);
+    }
+    if (!*bytes || ferror(file)) {
+        perror("records: the input cannot be read");
+        exit(1);
+    }
+    return len;
+}
+
+/* What the bytes are, where they are plainly no records; else null. */
+static const char *something_else(const uint8_t *bytes, size_t len) {
+    static const char pcap[4][5] = {
+        "\xa1\xb2\xc3\xd4", "\xd4\xc3\xb2\xa1", "\xa1\xb2\x3c\x4d", "\x4d\x3c\xb2\xa1"};
+    size_t k;
+
+    if (len == 0)
+        return "the input has no byte";
+    for (k = 0; k < 4; k++)
+        if (len >= 4 && memcmp(bytes, pcap[k], 4) == 0)
+            return "the input is a pcap and not joined records; "
+                   "the README has the line that makes them of it";
+    if (len >= 4 && memcmp(bytes, "\x0a\x0d\x0d\x0a", 4) == 0)
+        return "the input is a pcapng and not joined records; "
+               "the README has the line that makes them of it";
+    for (k = 0; k < len && k < 16; k++)
+        if (!isspace(bytes[k]) && !isxdigit(bytes[k]))
+            return NULL;
+    return "the input is hex text and not bytes; `xxd -r -p` makes bytes of it";
+}
+
+int main(int count, char **words) {
+    uint8_t *bytes;
+    size_t len;
+    const char *other;
+
+    if (count == 2 && strcmp(words[1], "--sample") == 0) {
+        records(sample, sizeof sample);
+        return 0;
+    }
+    if (count > 2 || (count == 2 && words[1][0] == '-') || (count < 2 && isatty(STDIN_FILENO))) {
+        fputs("usage: records FILE, or records < FILE: joined records, as bytes\n"
+              "       records --sample: a ClientHello whose extension block is cut off\n", stderr);
+        return 2;
+    }
+    len = input(count == 2 ? fopen(words[1], "rb") : stdin, &bytes);
+    other = something_else(bytes, len);
+    if (other)
+        fprintf(stderr, "records: %s\n", other);
+    else
+        records(bytes, len);
     free(bytes);
-    return 0;
+    return other ? 2 : 0;
 }
