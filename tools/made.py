@@ -1,4 +1,5 @@
-"""The parts of docs/ that are made from the tree: each paper has one, between two marks."""
+"""What is made from the tree: of a paper the part between two marks, pictures, and a table of
+names."""
 
 import pathlib
 import sys
@@ -31,6 +32,22 @@ def compare(root, name, lines, write=False):
         differ = [line for line in new.splitlines() if line not in old]
         first = differ[0][:80] if differ else "lines that are gone, or in another order"
         yield f"docs/{name} is not what ./papers --write makes: {len(differ)} lines, first {first}"
+
+
+def whole(root, name, text, write=False):
+    """What is wrong with a file that is made as a whole; with `write` it is written first."""
+    file, new = root / name, text.encode()
+    old = file.read_bytes() if file.is_file() else None
+    if old != new and write:
+        file.write_bytes(new)
+        print(f"{name} is written", file=sys.stderr)
+    elif old is None:
+        yield f"{name} is not there: ./papers --write makes it"
+    elif old != new:
+        pairs = enumerate(zip(old.split(b"\n"), new.split(b"\n")), 1)
+        differ = [line for line, (had, has) in pairs if had != has]
+        where = f"from line {differ[0]} on" if differ else "its end"
+        yield f"{name} is not what ./papers --write makes: {where}"
 
 
 def main(module):
