@@ -1,5 +1,5 @@
 #!/usr/bin/env python3
-"""tools/ciphers.py           holds crates/look_words/src/pages_*.rt to rust/src/ciphers/rows.rs
+"""tools/ciphers.py           holds crates/look/src/pages_*.rt to rust/src/ciphers/rows.rs
 tools/ciphers.py --write   writes them first
 
 The names of cipher suites stand once, in the table of the Rust binding. The program look has them
@@ -76,7 +76,7 @@ def wrong(root, write=False):
     ends = [*list(FILES.values())[1:], "g"]
     for (file, first), end in zip(FILES.items(), ends):
         here = [row for row in rows if first <= row[0] < end]
-        yield from made.whole(root, f"crates/look_words/src/{file}", text(here), write)
+        yield from made.whole(root, f"crates/look/src/{file}", text(here), write)
 
 
 if __name__ == "__main__":

@@ -18,28 +18,22 @@ def code(text):
     return "`" + text.replace("|", "\\|") + "`"
 
 
-def hands_out(function):
-    """Whether there is something to promise of: a result or a lent `&mut`. A function that has
-    neither prints, and no contract can say what is printed."""
-    return function.result or function.lent
-
-
 def promised(root, crate):
-    """The functions that promise nothing and must: each one that hands something out and is public
-    or of a program. And those of a library that ask something of their caller."""
+    """The functions that promise nothing and must: every public one, and of a program each one
+    with a result or a lent `&mut`. And those of a library that ask something of their caller."""
     program = not source.is_library(root, crate)
     for function in source.functions(root, crate):
         where = f"{function.file}:{function.line}: {function.title}"
-        owes = function.public or program and function.name != "main"
-        if owes and hands_out(function) and not source.facts(function):
+        hands_out = program and function.name != "main" and (function.result or function.lent)
+        if (function.public or hands_out) and not source.facts(function):
             yield f"{where} has no `ensures`"
         if function.public and function.requires and not program:
             yield f"{where} is public and has a `requires`"
 
 
 def tried(root, crate):
-    """The public functions of a library that hand something out and of which not two wrong answers
-    are tried, one of them in the gate."""
+    """The public functions of a library of which not two wrong answers are tried, one of them in
+    the gate."""
     functions, labels = source.functions(root, crate), {}
     for edit in source.edits(root, crate):
         for name, _ in edit.names:
@@ -47,8 +41,7 @@ def tried(root, crate):
                 labels.setdefault(function, []).append(edit.label)
     for function in functions if source.is_library(root, crate) else []:
         named = labels.get(function, [])
-        told = function.public and hands_out(function)
-        if told and (len(named) < 2 or all("/" in label for label in named)):
+        if function.public and (len(named) < 2 or all("/" in label for label in named)):
             where = f"{function.file}:{function.line}"
             yield f"{where}: of {function.title} no two wrong answers are tried, one in the gate"
 
@@ -114,8 +107,7 @@ def tables(root, crate):
     for public in (True, False):
         for function in functions:
             if function.public == public and (public or function.title in edits):
-                facts = "<br>".join(code(fact) for fact in source.facts(function))
-                contract = facts if hands_out(function) else "prints, and hands nothing out"
+                contract = "<br>".join(code(fact) for fact in source.facts(function))
                 name = code(function.title) + ("" if public else ", not public")
                 called.append(row(name, contract, edits.pop(function.title, [])))
     stated = [row(code(name), code(definitions.get(name, "?")), edits[name]) for name in edits]

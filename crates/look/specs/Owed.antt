@@ -1,11 +1,12 @@
--- A message that is begun in one record and goes on in the next: how many of its bytes are owed.
+-- A message that is begun in one record and goes on in the next, and how many of its bytes are
+-- owed: RULES 6.13.
 use Rattle.refusal.specs.{ℕ, _-_, List, length, drop, eqb, ltb}
 use Rattle.registry.specs.Types.{handshakeRecord}
 use Rattle.wire.specs.{pick}
 use Rattle.record_walk.specs.Walks.{messages, pastAll}
 use Rattle.record_tally.specs.Tally.{lackingAt}
 
--- no message that goes on in the next record announces more
+-- more bytes than this are not believed to be missing of a message
 abbrev pub believed : ℕ
 believed = 131072
 

@@ -1,4 +1,4 @@
--- The sums of the summary, record by record.
+-- The sums of the summary of `look`, record by record: RULES 6.14.
 use Prim.Native.Nat.{_%_, _^_}
 use Rattle.refusal.specs.{ℕ, _+_, List, length, drop, eqb, numberOf, Elsewhere, Refusal, Answer, accepted, refused}
 use Rattle.wire.specs.{pick}

@@ -1,6 +1,6 @@
 // What an input that is no joined records is, and what to do with it.
+use crate::say::text;
 use look_input::InputKind;
-use look_words::text;
 
 fn capture(name: &[u8]) {
     text(b"this is a ");

@@ -3,10 +3,19 @@
 // and what it holds of a record that goes on is carried over into the next. Each place is counted
 // from the front of the input. A refusal is told by its name and number, and so is what is not
 // read. docs/LOOK.md has every line.
+mod bodies;
+mod ciphers;
+mod hellos;
 mod hints;
+mod lists;
 mod messages;
+mod names;
+mod others;
 mod owed;
+mod pages_00;
+mod pages_c0;
 mod records;
+mod say;
 mod sums;
 
 ghost use mathlib.Core.Path.{_≡_};
@@ -15,10 +24,10 @@ ghost use Rattle.wire.specs.Parts.{partOf};
 ghost use Rattle.look.specs.Sums.{recordSums};
 use libc::STDIN_FILENO;
 use look_input::InputKind;
-use look_words::text;
 use record::RawRecordAnswer;
 use record::TlsRawRecord;
 use record_open::PlaintextAnswer;
+use say::text;
 use wire::view::View;
 use wire::view::part_of;
 use wire::view::rest_of;

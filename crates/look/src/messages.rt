@@ -1,14 +1,15 @@
 // The messages of a handshake record, whose content begins at `from` in the input.
+use crate::bodies;
+use crate::names::say_handshake_type;
+use crate::names::say_reason;
 use crate::owed;
+use crate::say::amount;
+use crate::say::count;
+use crate::say::extent;
+use crate::say::number;
+use crate::say::text;
 use envelope::HeadAnswer;
 use envelope::TlsMessageHead;
-use look_words::amount;
-use look_words::count;
-use look_words::extent;
-use look_words::number;
-use look_words::say_handshake_type;
-use look_words::say_reason;
-use look_words::text;
 use message::handshake::MessageAnswer;
 use refusal::Refusal;
 use wire::number::NumberAnswer;
@@ -91,7 +92,7 @@ fn say_opened(msg_type: u8, body: &[u8], from: usize) {
     match envelope::parse_tls_handshake_body(msg_type, body) {
         MessageAnswer::Refused(_) => {}
         MessageAnswer::Got(m) => {
-            look_bodies::say_body(m, body, from);
+            bodies::say_body(m, body, from);
             say_tail(m.rest(body).len(), body, from);
         }
     }

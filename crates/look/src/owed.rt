@@ -6,7 +6,7 @@ use record::TlsRawRecord;
 use wire::view::part_of;
 use wire::view::rest_of;
 
-// More than any message announces that goes on in the next record: what reads so is no message.
+// More bytes than this are not believed to be missing of a message: what reads so is none.
 pub(crate) const BELIEVED: usize = 131072;
 
 // What the last of messages lacks, the first beginning at the front of `s`.

@@ -2,13 +2,13 @@
 ghost use mathlib.Core.Path.{_≡_};
 ghost use Rattle.look.specs.Sums.{sum};
 use crate::messages;
-use look_words::count;
-use look_words::extent;
-use look_words::number;
-use look_words::say_reason;
-use look_words::say_record_type;
-use look_words::say_version;
-use look_words::text;
+use crate::names::say_reason;
+use crate::names::say_record_type;
+use crate::names::say_version;
+use crate::say::count;
+use crate::say::extent;
+use crate::say::number;
+use crate::say::text;
 use record::RawRecordAnswer;
 use record::RecordHeaderAnswer;
 use record::TlsRawRecord;
@@ -131,7 +131,7 @@ fn say_left_header(h: TlsRecordHeader) {
     }
 }
 
-// Why there is no whole record; a record that no window can hold is told.
+// Why there is no whole record: one that is too large is told from one that is cut off.
 fn say_why(r: Refusal) {
     text(b", refused: ");
     say_reason(r);

@@ -1,9 +1,9 @@
 // What the summary tells: sums over the records.
 ghost use mathlib.Core.Path.{_≡_};
 ghost use Rattle.look.specs.Sums.{added, closedSums, continuedSums, noSums, openedSums};
-use look_words::amount;
-use look_words::count;
-use look_words::text;
+use crate::say::amount;
+use crate::say::count;
+use crate::say::text;
 use record_open::TlsPlaintext;
 use record_tally::HelloTally;
 use refusal::Refusal;
@@ -61,30 +61,14 @@ pub(crate) fn opened(p: TlsPlaintext, h: HelloTally) -> Sums
 pub(crate) fn closed(r: Refusal) -> Sums
     ensures { λ x. ⌜ x ≡ closedSums r ⌝ }
 {
+    let mut s = none();
+    s.records = 1;
     if refusal::refusal_number(r) == 10 {
-        return Sums {
-            records: 1,
-            refused: 0,
-            elsewhere: 1,
-            continued: 0,
-            messages: 0,
-            dropped: 0,
-            clients: 0,
-            servers: 0,
-            cut: 0,
-        };
+        s.elsewhere = 1;
+        return s;
     }
-    Sums {
-        records: 1,
-        refused: 1,
-        elsewhere: 0,
-        continued: 0,
-        messages: 0,
-        dropped: 0,
-        clients: 0,
-        servers: 0,
-        cut: 0,
-    }
+    s.refused = 1;
+    s
 }
 
 // Those of one record that goes on with a message begun before it, by the bytes `s` behind those of

@@ -1,4 +1,5 @@
--- What the bytes that a person hands to the program `look` seem to be, by their first four bytes.
+-- What the bytes that a person hands to the program `look` seem to be, by their first four bytes:
+-- RULES 6.12.
 use Rattle.refusal.specs.{ℕ, List, [], _∷_, Bool, _||_, _&&_, length, getD, leb, eqb}
 use Rattle.wire.specs.{pick, be}
 use Rattle.look_input.specs.Marks.{pcap, pcapSwapped, pcapNano, pcapNanoSwapped, pcapNg, gzipId1, gzipId2, gzipDeflate, typeLow, typeHigh, dtlsMajor, ssl2Top, ssl2Last, ssl2ClientHello, ssl2Major, tlsMajor, space, tab, lineFeed, carriageReturn, colon}

@@ -1,14 +1,14 @@
 // The lists of a message, item by item. The list `l` begins at `from` in the input.
+use crate::ciphers::say_cipher;
+use crate::names::say_compression;
+use crate::say::count;
+use crate::say::extent;
+use crate::say::hex;
+use crate::say::text;
 use list::items::item_count;
 use list::items::item_from;
 use list::numbers::number_at;
 use list::numbers::number_count;
-use look_words::count;
-use look_words::extent;
-use look_words::hex;
-use look_words::say_cipher;
-use look_words::say_compression;
-use look_words::text;
 use wire::number::NumberAnswer;
 use wire::number::Width;
 use wire::view::PartAnswer;

@@ -1,13 +1,13 @@
 // The hellos, and what asks for another. The body of each begins at `from` in the input.
+use crate::ciphers::say_cipher;
 use crate::lists;
+use crate::names::say_compression;
+use crate::names::say_version;
+use crate::say::bytes;
+use crate::say::kind;
+use crate::say::part;
+use crate::say::text;
 use list::numbers::number_count;
-use look_words::bytes;
-use look_words::kind;
-use look_words::part;
-use look_words::say_cipher;
-use look_words::say_compression;
-use look_words::say_version;
-use look_words::text;
 use read_client::TlsClientHelloContents;
 use read_others::retry::TlsHelloRetryRequestContents;
 use read_server::tlsv12::TlsServerHelloContents;

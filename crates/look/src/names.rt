@@ -6,7 +6,6 @@ use crate::say::text;
 use refusal::Reason;
 use refusal::Refusal;
 use registry::handshake;
-use registry::record;
 
 // The drafts of TLS 1.3 that tls-parser names, 0x7f12 to 0x7f17.
 fn draft(version: usize) {
@@ -21,7 +20,7 @@ fn draft(version: usize) {
 }
 
 // Prints a version in hex, and its name behind a comma.
-pub fn say_version(version: usize) {
+pub(crate) fn say_version(version: usize) {
     hex(version, 4);
     match version {
         0x0002 => text(b", SSL 2.0"),
@@ -37,13 +36,13 @@ pub fn say_version(version: usize) {
 }
 
 // Prints the name of a record's type.
-pub fn say_record_type(record_type: u8) {
+pub(crate) fn say_record_type(record_type: u8) {
     match record_type {
-        record::CHANGE_CIPHER_SPEC => text(b"ChangeCipherSpec"),
-        record::ALERT => text(b"Alert"),
-        record::HANDSHAKE => text(b"Handshake"),
-        record::APPLICATION_DATA => text(b"ApplicationData"),
-        record::HEARTBEAT => text(b"Heartbeat"),
+        registry::record::CHANGE_CIPHER_SPEC => text(b"ChangeCipherSpec"),
+        registry::record::ALERT => text(b"Alert"),
+        registry::record::HANDSHAKE => text(b"Handshake"),
+        registry::record::APPLICATION_DATA => text(b"ApplicationData"),
+        registry::record::HEARTBEAT => text(b"Heartbeat"),
         _ => {
             text(b"type 0x");
             hex(record_type as usize, 2);
@@ -70,7 +69,7 @@ fn hello_type(msg_type: u8) {
 }
 
 // Prints the name of a handshake message's type.
-pub fn say_handshake_type(msg_type: u8) {
+pub(crate) fn say_handshake_type(msg_type: u8) {
     match msg_type {
         handshake::CERTIFICATE => text(b"Certificate"),
         handshake::SERVER_KEY_EXCHANGE => text(b"ServerKeyExchange"),
@@ -85,7 +84,7 @@ pub fn say_handshake_type(msg_type: u8) {
 }
 
 // Prints a compression method in hex, and its name behind a blank.
-pub fn say_compression(method: usize) {
+pub(crate) fn say_compression(method: usize) {
     hex(method, 2);
     match method {
         0x00 => text(b" null"),
@@ -115,7 +114,7 @@ fn reason_name(r: Refusal) {
 }
 
 // Prints the name of a refusal and its number, and ends the line.
-pub fn say_reason(r: Refusal) {
+pub(crate) fn say_reason(r: Refusal) {
     reason_name(r);
     text(b" (");
     number(refusal::refusal_number(r) as usize);

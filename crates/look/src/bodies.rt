@@ -1,11 +1,8 @@
-// What the program look says of a message's body, line by line. Every function prints to standard
-// output and hands nothing out. A body is lent as it is, and `from` is where it begins in the
-// input: so each place that is printed is counted from the front of the input.
-mod hellos;
-mod lists;
-mod others;
-
-use look_words::kind;
+// What is said of a message's body, line by line. A body is lent as it is, and `from` is where it
+// begins in the input: so each place that is printed is counted from the front of the input.
+use crate::hellos;
+use crate::others;
+use crate::say::kind;
 use message::handshake::TlsMessageHandshake;
 
 // What a hello says, and a message that asks for another.
@@ -22,7 +19,7 @@ fn say_hello(m: TlsMessageHandshake, body: &[u8], from: usize) {
 }
 
 // Prints what a message is and what it says, a field a line.
-pub fn say_body(m: TlsMessageHandshake, body: &[u8], from: usize) {
+pub(crate) fn say_body(m: TlsMessageHandshake, body: &[u8], from: usize) {
     match m {
         TlsMessageHandshake::Certificate(c) => others::certificate(c, body, from),
         TlsMessageHandshake::CertificateRequest(c) => others::request(c, body, from),

@@ -34,7 +34,7 @@ pub(crate) fn find(page: &[u8], n: usize) {
 }
 
 // Prints the number of a cipher suite in hex, and its name behind a blank.
-pub fn say_cipher(n: usize) {
+pub(crate) fn say_cipher(n: usize) {
     hex(n, 4);
     if n < 0xc000 {
         pages_00::say_name(n);

@@ -1,12 +1,12 @@
 // The other bodies. The body of each begins at `from` in the input. What a reader of such a body
 // leaves over is said by the program, behind these lines.
 use crate::lists;
+use crate::say::field;
+use crate::say::kind;
+use crate::say::number;
+use crate::say::part;
+use crate::say::text;
 use list::items::item_count;
-use look_words::field;
-use look_words::kind;
-use look_words::number;
-use look_words::part;
-use look_words::text;
 use read_certs::certificate::TlsCertificateContents;
 use read_certs::request::TlsCertificateRequestContents;
 use read_certs::status::TlsCertificateStatusContents;

@@ -1,8 +1,8 @@
 -- `methods` is safe and ends: each turn leaves one method less. Assumes nothing.
 use Prim.Native.Nat.{_-_}
 use borrow.Author.Needs.{needs}
-use Rattle.look_bodies.proofs.lists.methods.Statement.{statement}
-use Rattle.look_bodies.proofs.lists.methods.Tie as tie
+use Rattle.look.proofs.lists.methods.Statement.{statement}
+use Rattle.look.proofs.lists.methods.Tie as tie
 
 abbrev Inv-loop : tie.InvT-loop
 Inv-loop l k₀ t4 k-end k = Unit

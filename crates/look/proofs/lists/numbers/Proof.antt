@@ -1,8 +1,8 @@
 -- `numbers` is safe and ends: each turn leaves one number less. Assumes nothing.
 use Prim.Native.Nat.{_-_}
 use borrow.Author.Needs.{needs}
-use Rattle.look_bodies.proofs.lists.numbers.Statement.{statement}
-use Rattle.look_bodies.proofs.lists.numbers.Tie as tie
+use Rattle.look.proofs.lists.numbers.Statement.{statement}
+use Rattle.look.proofs.lists.numbers.Tie as tie
 
 abbrev Inv-loop : tie.InvT-loop
 Inv-loop l w digits k₀ t6 k-end k = Unit

@@ -6,17 +6,17 @@ use wire::number::NumberAnswer;
 use wire::number::Width;
 
 // Prints text as it is.
-pub fn text(t: &[u8]) {
+pub(crate) fn text(t: &[u8]) {
     io::write_all(STDOUT_FILENO, t);
 }
 
 // Prints a number in decimal.
-pub fn number(n: usize) {
+pub(crate) fn number(n: usize) {
     io::print_decimal(STDOUT_FILENO, n as u64);
 }
 
 // Prints a number in hex, with zeros in front up to so many digits.
-pub fn hex(n: usize, digits: usize) {
+pub(crate) fn hex(n: usize, digits: usize) {
     io::print_hex(STDOUT_FILENO, n as u64, digits);
 }
 
@@ -39,7 +39,7 @@ fn below_million(n: usize) {
 }
 
 // Prints a number with a comma before each three digits, up to twelve of them.
-pub fn amount(n: usize) {
+pub(crate) fn amount(n: usize) {
     if n < 1000000 {
         below_million(n);
         return;
@@ -50,7 +50,7 @@ pub fn amount(n: usize) {
 }
 
 // Prints so many of what `name` names, which takes an s where they are not one.
-pub fn count(n: usize, name: &[u8]) {
+pub(crate) fn count(n: usize, name: &[u8]) {
     amount(n);
     text(name);
     if n == 1 {
@@ -61,7 +61,7 @@ pub fn count(n: usize, name: &[u8]) {
 
 // Prints where bytes begin in the input, and how many they are. The place is `from` and `start` in
 // sum: where a body begins, and where a part of it does.
-pub fn extent(from: usize, start: usize, len: usize) {
+pub(crate) fn extent(from: usize, start: usize, len: usize) {
     text(b" at ");
     number(std::num::wrapping_add_usize(from, start));
     text(b", ");
@@ -69,20 +69,20 @@ pub fn extent(from: usize, start: usize, len: usize) {
 }
 
 // Prints a field of a message: its name and its number in hex, without the end of the line.
-pub fn field(name: &[u8], n: usize, digits: usize) {
+pub(crate) fn field(name: &[u8], n: usize, digits: usize) {
     text(name);
     text(b" ");
     hex(n, digits);
 }
 
 // Prints a part of a message: its name and where it lies, without the end of the line.
-pub fn part(name: &[u8], from: usize, start: usize, len: usize) {
+pub(crate) fn part(name: &[u8], from: usize, start: usize, len: usize) {
     text(name);
     extent(from, start, len);
 }
 
 // Prints the kind of a message, behind its number and place, and where its body lies.
-pub fn kind(name: &[u8], from: usize, len: usize) {
+pub(crate) fn kind(name: &[u8], from: usize, len: usize) {
     text(name);
     text(b", body");
     extent(from, 0, len);
@@ -96,7 +96,7 @@ fn byte(a: NumberAnswer) {
 }
 
 // Prints bytes in hex, one behind the other.
-pub fn bytes(b: &[u8]) {
+pub(crate) fn bytes(b: &[u8]) {
     for k in 0..number_count(b, Width::One) {
         byte(number_at(b, Width::One, k));
     }

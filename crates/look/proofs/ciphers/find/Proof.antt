@@ -1,14 +1,14 @@
--- `items` is safe and ends: each turn leaves one item less. Assumes nothing.
+-- `find` is safe and ends: each turn leaves one row less. Assumes nothing.
 use Prim.Native.Nat.{_-_}
 use borrow.Author.Needs.{needs}
-use Rattle.look_bodies.proofs.lists.items.Statement.{statement}
-use Rattle.look_bodies.proofs.lists.items.Tie as tie
+use Rattle.look.proofs.ciphers.find.Statement.{statement}
+use Rattle.look.proofs.ciphers.find.Tie as tie
 
 abbrev Inv-loop : tie.InvT-loop
-Inv-loop l name from w end₀ k₀ k-end end k = Unit
+Inv-loop page n from₀ k₀ k-end from k = Unit
 
 abbrev μ-loop : tie.MeasureT-loop
-μ-loop l name from w end₀ k₀ k-end end k = k-end - k
+μ-loop page n from₀ k₀ k-end from k = k-end - k
 
 item-count-requires : tie.Need-item-count-requires Inv-loop μ-loop
 item-count-requires c κs = search needs
@@ -19,11 +19,14 @@ loop-holds c = search needs
 item-from-requires : tie.Need-item-from-requires Inv-loop μ-loop
 item-from-requires c κs = search needs
 
-item-requires : tie.Need-item-requires Inv-loop μ-loop
-item-requires c κs = search needs
+enum-known-row : tie.Need-enum-known-row Inv-loop μ-loop
+enum-known-row c = search needs
 
-enum-known-met : tie.Need-enum-known-met Inv-loop μ-loop
-enum-known-met c = search needs
+part-of-requires : tie.Need-part-of-requires Inv-loop μ-loop
+part-of-requires c κs = search needs
+
+say-row-requires : tie.Need-say-row-requires Inv-loop μ-loop
+say-row-requires c κs = search needs
 
 enum-told : tie.Need-enum-told Inv-loop μ-loop
 enum-told c = search needs
@@ -37,14 +40,11 @@ loop-less c = search needs
 loop-again : tie.Need-loop-again Inv-loop μ-loop
 loop-again c = search needs
 
-dropped-requires : tie.Need-dropped-requires Inv-loop μ-loop
-dropped-requires c κs = search needs
-
 returns : tie.Need-returns Inv-loop μ-loop
 returns c = search needs
 
-pub items-spec : {M : Type 1} → statement M
-items-spec =
+pub find-spec : {M : Type 1} → statement M
+find-spec =
     tie.close
     (tie.spec
     Inv-loop
@@ -52,11 +52,11 @@ items-spec =
     item-count-requires
     loop-holds
     item-from-requires
-    item-requires
-    enum-known-met
+    enum-known-row
+    part-of-requires
+    say-row-requires
     enum-told
     add-k
     loop-less
     loop-again
-    dropped-requires
     returns)

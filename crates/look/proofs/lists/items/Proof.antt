@@ -1,14 +1,14 @@
--- `find` is safe and ends: each turn leaves one row less. Assumes nothing.
+-- `items` is safe and ends: each turn leaves one item less. Assumes nothing.
 use Prim.Native.Nat.{_-_}
 use borrow.Author.Needs.{needs}
-use Rattle.look_words.proofs.ciphers.find.Statement.{statement}
-use Rattle.look_words.proofs.ciphers.find.Tie as tie
+use Rattle.look.proofs.lists.items.Statement.{statement}
+use Rattle.look.proofs.lists.items.Tie as tie
 
 abbrev Inv-loop : tie.InvT-loop
-Inv-loop page n from₀ k₀ k-end from k = Unit
+Inv-loop l name from w end₀ k₀ k-end end k = Unit
 
 abbrev μ-loop : tie.MeasureT-loop
-μ-loop page n from₀ k₀ k-end from k = k-end - k
+μ-loop l name from w end₀ k₀ k-end end k = k-end - k
 
 item-count-requires : tie.Need-item-count-requires Inv-loop μ-loop
 item-count-requires c κs = search needs
@@ -19,14 +19,11 @@ loop-holds c = search needs
 item-from-requires : tie.Need-item-from-requires Inv-loop μ-loop
 item-from-requires c κs = search needs
 
-enum-known-row : tie.Need-enum-known-row Inv-loop μ-loop
-enum-known-row c = search needs
+item-requires : tie.Need-item-requires Inv-loop μ-loop
+item-requires c κs = search needs
 
-part-of-requires : tie.Need-part-of-requires Inv-loop μ-loop
-part-of-requires c κs = search needs
-
-say-row-requires : tie.Need-say-row-requires Inv-loop μ-loop
-say-row-requires c κs = search needs
+enum-known-met : tie.Need-enum-known-met Inv-loop μ-loop
+enum-known-met c = search needs
 
 enum-told : tie.Need-enum-told Inv-loop μ-loop
 enum-told c = search needs
@@ -40,11 +37,14 @@ loop-less c = search needs
 loop-again : tie.Need-loop-again Inv-loop μ-loop
 loop-again c = search needs
 
+dropped-requires : tie.Need-dropped-requires Inv-loop μ-loop
+dropped-requires c κs = search needs
+
 returns : tie.Need-returns Inv-loop μ-loop
 returns c = search needs
 
-pub find-spec : {M : Type 1} → statement M
-find-spec =
+pub items-spec : {M : Type 1} → statement M
+items-spec =
     tie.close
     (tie.spec
     Inv-loop
@@ -52,11 +52,11 @@ find-spec =
     item-count-requires
     loop-holds
     item-from-requires
-    enum-known-row
-    part-of-requires
-    say-row-requires
+    item-requires
+    enum-known-met
     enum-told
     add-k
     loop-less
     loop-again
+    dropped-requires
     returns)

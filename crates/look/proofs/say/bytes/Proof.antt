@@ -1,14 +1,14 @@
--- `ciphers` is safe and ends: each turn leaves one cipher less. Assumes nothing.
+-- `bytes` is safe and ends: each turn leaves one byte less. Assumes nothing.
 use Prim.Native.Nat.{_-_}
 use borrow.Author.Needs.{needs}
-use Rattle.look_bodies.proofs.lists.ciphers.Statement.{statement}
-use Rattle.look_bodies.proofs.lists.ciphers.Tie as tie
+use Rattle.look.proofs.say.bytes.Statement.{statement}
+use Rattle.look.proofs.say.bytes.Tie as tie
 
 abbrev Inv-loop : tie.InvT-loop
-Inv-loop l k₀ k-end k = Unit
+Inv-loop b k₀ k-end k = Unit
 
 abbrev μ-loop : tie.MeasureT-loop
-μ-loop l k₀ k-end k = k-end - k
+μ-loop b k₀ k-end k = k-end - k
 
 number-count-requires : tie.Need-number-count-requires Inv-loop μ-loop
 number-count-requires c κs = search needs
@@ -19,8 +19,8 @@ loop-holds c = search needs
 number-at-requires : tie.Need-number-at-requires Inv-loop μ-loop
 number-at-requires c κs = search needs
 
-cipher-requires : tie.Need-cipher-requires Inv-loop μ-loop
-cipher-requires c κs = search needs
+byte-requires : tie.Need-byte-requires Inv-loop μ-loop
+byte-requires c κs = search needs
 
 add-k : tie.Need-add-k Inv-loop μ-loop
 add-k c = search needs
@@ -34,8 +34,8 @@ loop-again c = search needs
 returns : tie.Need-returns Inv-loop μ-loop
 returns c = search needs
 
-pub ciphers-spec : {M : Type 1} → statement M
-ciphers-spec =
+pub bytes-spec : {M : Type 1} → statement M
+bytes-spec =
     tie.close
     (tie.spec
     Inv-loop
@@ -43,7 +43,7 @@ ciphers-spec =
     number-count-requires
     loop-holds
     number-at-requires
-    cipher-requires
+    byte-requires
     add-k
     loop-less
     loop-again
