@@ -187,12 +187,12 @@ cores() {
 }
 
 # about NAME..: how long their proofs take, from what was measured: a library some 20 seconds of a
-# core, a program 60, the time that a core waits for another one included.
+# core, a program 120, the time that a core waits for another one included.
 about() {
     local name sum=0 most=0 one
     for name in "$@"; do
         one=20
-        [ ! -f "$root/crates/$name/src/main.rt" ] || one=60
+        [ ! -f "$root/crates/$name/src/main.rt" ] || one=120
         sum=$((sum + one)) most=$((one > most ? one : most))
     done
     sum=$((sum / $(cores)))
