@@ -9,11 +9,14 @@ mod write_rows;
 fn main() {
     say::text(b"Z is 32 zero bytes, H is 0303 Z 00 0000 00\n");
     say::text(
-        b"refused 1 is Incomplete, 2 Complete, 3 Verify, 4 LengthValue, 5 Tag, 6 Switch, 7 TooLarge, 8 BadLength, 9 NoRoom, 10 Elsewhere, 11 NoSuch, 12 NotYetImplemented\n",
+        b"refused 1 is Incomplete, 2 Complete, 3 Verify, 4 LengthValue, 5 Tag, 6 Switch, 7 TooLarge, 8 BadLength, 9 NoRoom, 11 NoSuch, 12 NotYetImplemented\n",
     );
     hello_rows::clients();
     record_rows::messages();
     record_rows::records();
+    record_rows::others();
+    record_rows::heartbeats();
+    record_rows::many();
     hello_rows::versions();
     write_rows::backs();
     cert_rows::lists();

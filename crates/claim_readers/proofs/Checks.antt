@@ -3,10 +3,11 @@
 use Prim.Native.Nat.{ℕ, _+_, _%_, _<_, _≤_}
 use mathlib.Core.Path.{_≡_, refl, ap, sym, _∙_}
 use mathlib.Core.List.{List, [], _∷_}
-use mathlib.Core.Bool.{Bool, true, false, not, _||_}
+use mathlib.Core.Bool.{Bool, true, false, not, _&&_}
 use mathlib.Core.Option.{Option, none, some}
 use native.Mathlib.Omega.{arith}
-use borrow.Author.Tests.{leb-true, leb-false, ltb-true, ltb-false, eqb-true, eqb-false, le-leb, lt-ltb, le-ltb, ne-eqb}
+use borrow.Author.Tests.{leb-true, leb-false, ltb-true, ltb-false, eqb-true, eqb-false, le-leb, lt-leb, lt-ltb, le-ltb}
+use borrow.Author.Tests.{ne-eqb}
 use lib.ListN.{length, take, drop}
 use lib.Dec.{leb, ltb, eqb}
 use Rattle.refusal.specs.Answers.{Answer, accepted, refused, then, orElse, within, numberIn}
@@ -220,12 +221,30 @@ outside lo hi v x y f = go (ltb v lo) refl
     go true q = rw q
     go false q = rw (q, lt-ltb hi v (f (ltb-false v lo q)))
 
-pub either-side : (lo hi v : ℕ) → (lo ≤ v → hi < v) → (ltb v lo || ltb hi v) ≡ true
-either-side lo hi v f = go (ltb v lo) refl
+pub not-between : (lo hi v : ℕ) → (lo ≤ v → hi < v) → (leb lo v && leb v hi) ≡ false
+not-between lo hi v f = go (leb lo v) refl
   where
-    go : (t : Bool) → ltb v lo ≡ t → (ltb v lo || ltb hi v) ≡ true
-    go true q = rw q
-    go false q = rw (q, lt-ltb hi v (f (ltb-false v lo q)))
+    go : (t : Bool) → leb lo v ≡ t → (leb lo v && leb v hi) ≡ false
+    go true q = rw (q, lt-leb v hi (f (leb-true lo v q)))
+    go false q = rw q
+
+-- one from lo to hi is taken, and every other refused
+pub between : {A : Type 0} (lo hi v : ℕ) (t : Bool) (x y : A) → (t ≡ true → (lo ≤ v) × (v ≤ hi))
+    → (t ≡ false → lo ≤ v → hi < v)
+    → pick t x y ≡ pick (ltb v lo) y (pick (ltb hi v) y x)
+between lo hi v true x y f g =
+    let h = f refl in
+    rw (le-ltb v lo (h .0), le-ltb hi v (h .1))
+between lo hi v false x y f g = sym (outside lo hi v y x (g refl))
+
+-- a test that asks for bytes at last
+pub and-under : {A : Type 0} (t : Bool) (n l : ℕ) (x y : A) → pick (t && leb n l) x y ≡ pick t (pick (ltb l n) y x) y
+and-under false n l x y = refl
+and-under true n l x y = go (leb n l) refl
+  where
+    go : (u : Bool) → leb n l ≡ u → pick (leb n l) x y ≡ pick (ltb l n) y x
+    go true q = rw (q, le-ltb l n (leb-true n l q))
+    go false q = rw (q, lt-ltb l n (leb-false n l q))
 
 -- the first answer where it is accepted, else the second
 pub number-else : {A : Type 0} (x y : Answer A) → numberIn (orElse x y) ≡ pick (eqb (numberIn x) 0) 0 (numberIn y)

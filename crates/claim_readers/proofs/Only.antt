@@ -11,18 +11,21 @@ use lib.ListN.{take, drop}
 use Rattle.refusal.specs.Answers.{Answer, accepted, refused, numberIn}
 use Rattle.refusal.specs.Refusals.{numberOf, OneOf}
 use Rattle.refusal.specs.declared.Reason.{Reason}
-use Rattle.refusal.specs.declared.Reason.the-variants.{Incomplete, Complete, Verify, Tag, Switch, TooLarge, Elsewhere}
-use Rattle.refusal.specs.declared.Reason.the-variants.{NoSuch}
+use Rattle.refusal.specs.declared.Reason.the-variants.{Incomplete, Complete, Verify, LengthValue, Tag, Switch}
+use Rattle.refusal.specs.declared.Reason.the-variants.{TooLarge, NoSuch}
 use Rattle.refusal.proofs.Told.{its-reason}
 use Rattle.wire.specs.Parts.{pick}
 use Rattle.wire.specs.Numbers.{be}
 use Rattle.field.proofs.Texts.{both-true}
 use Rattle.list.specs.Items.{orNoSuch}
+use Rattle.content_walk.specs.declared.TlsRecordWalk.{TlsRecordWalk}
 use Rattle.claim_readers.specs.Readers.{All, _&_, end, Check, ofMessage, inOrder, beside, clientCase, serverCase}
 use Rattle.claim_readers.specs.Readers.{byVersionCase, draft18Case, serverMessageCase, retryCase, ticketCase}
 use Rattle.claim_readers.specs.Readers.{certificateCase, requestCase, statusCase, nextProtocolCase}
-use Rattle.claim_readers.specs.Readers.{keyUpdateCase, wholeCase, openedCase, bodyCase, metCase, recordTypeCase}
-use Rattle.claim_readers.specs.Readers.{plaintextCase, placeCase, walkCase}
+use Rattle.claim_readers.specs.Readers.{keyUpdateCase, wholeCase, openedCase, bodyCase, metCase, ofFirst}
+use Rattle.claim_readers.specs.Readers.{cipherSpecCase, alertCase, applicationCase, heartbeatCase}
+use Rattle.claim_readers.specs.Readers.{heartbeatInCase, foundCase, recordTypeCase, plaintextCase, manyCase}
+use Rattle.claim_readers.specs.Readers.{placeCase, orNone, walkCase, walkByTypeCase, walkRecordsCase}
 
 -- the number is 0 or that of one of these, with the list in sight
 pub record Only (whys : List Reason) (n : ℕ) : Type 0 where
@@ -48,7 +51,7 @@ none-one : (whys : List Reason) → OneOf whys 0
 none-one [] = refl
 none-one (why ∷ whys) = inr (none-one whys)
 
-none-refused : {whys : List Reason} → Only whys 0
+pub none-refused : {whys : List Reason} → Only whys 0
 none-refused {whys} = record { given = none-one whys }
 
 -- of two such numbers either is one
@@ -105,21 +108,67 @@ pub met-only : (at : ℕ) (s : List ℕ) → Only ofMessage (metCase at s)
 unfolding metCase bodyCase
 met-only at s = only-order _ refl (opened-only _ (be 1 s at) (take (be 3 s (at + 1)) (drop (at + 4) s)))
 
-pub plaintext-only : (s : List ℕ) → Only (TooLarge ∷ Elsewhere ∷ ofMessage) (plaintextCase s)
-unfolding plaintextCase recordTypeCase
+pub heartbeat-in-only : (n : ℕ) (s : List ℕ) → Only (Incomplete ∷ LengthValue ∷ []) (heartbeatInCase n s)
+unfolding heartbeatInCase heartbeatCase
+heartbeat-in-only n s = only-order _ refl (checks-only _ refl)
+
+pub found-only : (t at : ℕ) (s : List ℕ) → Only ofMessage (foundCase t at s)
+unfolding foundCase cipherSpecCase alertCase applicationCase heartbeatCase
+found-only t at s =
+    beside-only t _
+    (checks-only _ refl & checks-only _ refl & met-only at s & none-refused & checks-only _ refl & end)
+    (has-only ofMessage (numberOf Switch) refl)
+
+-- Complete for Incomplete
+of-first-only : {whys : List Reason} {c : ℕ} → Only whys (numberOf Complete) → Only whys c → Only whys (ofFirst c)
+of-first-only {c} p q = either-way (eqb c 1) p q
+
+pub content-only : (t : ℕ) (content : List ℕ) → Only ofMessage (recordTypeCase t content)
+unfolding recordTypeCase heartbeatCase
+content-only t content =
+    only-order _ refl (beside-only t _
+    (checks-only _ refl
+    & checks-only _ refl
+    & of-first-only (has-only _ (numberOf Complete) refl) (met-only 0 content)
+    & checks-only _ refl
+    & end)
+    none-refused)
+
+pub plaintext-only : (s : List ℕ) → Only (TooLarge ∷ ofMessage) (plaintextCase s)
+unfolding plaintextCase
 plaintext-only s =
-    let content = take (be 2 s 3) (drop 5 s) in
-    only-order _ refl (only-order _ refl
-    (either-way (eqb (metCase 0 content) 1) (has-only _ (numberOf Complete) refl)
-    (record { given = inr (inr (met-only 0 content .given)) })))
+    only-order _ refl (record { given = inr (content-only (be 1 s 0) (take (be 2 s 3) (drop 5 s)) .given) })
+
+-- Complete for Incomplete, so that it is not Incomplete
+pub many-only : (s : List ℕ)
+    → Only (TooLarge ∷ Complete ∷ Verify ∷ LengthValue ∷ Tag ∷ Switch ∷ []) (manyCase s)
+unfolding manyCase
+many-only s = go (plaintextCase s) (plaintext-only s .given)
+  where
+    go : (c : ℕ) → OneOf (TooLarge ∷ ofMessage) c
+        → Only (TooLarge ∷ Complete ∷ Verify ∷ LengthValue ∷ Tag ∷ Switch ∷ []) (ofFirst c)
+    go c (inl e) = rw e (has-only _ (numberOf TooLarge) refl)
+    go c (inr (inl e)) = rw e (has-only _ (numberOf Complete) refl)
+    go c (inr (inr o)) = of-first-only (has-only _ (numberOf Complete) refl) (record { given = inr o })
 
 pub place-only : (k count : ℕ) → Only (NoSuch ∷ []) (placeCase k count)
 unfolding placeCase
 place-only k count = checks-only _ refl
 
+none-only : (c : ℕ) → Only (NoSuch ∷ []) (orNone c)
+none-only c = either-way (eqb c 0) none-refused (has-only _ (numberOf NoSuch) refl)
+
 pub walk-only : (at : ℕ) (s : List ℕ) → Only (NoSuch ∷ []) (walkCase at s)
 unfolding walkCase
-walk-only at s = either-way (eqb (metCase at s) 0) none-refused (has-only _ (numberOf NoSuch) refl)
+walk-only at s = none-only (metCase at s)
+
+pub walk-by-type-only : (w : TlsRecordWalk) (s : List ℕ) → Only (NoSuch ∷ []) (walkByTypeCase w s)
+unfolding walkByTypeCase
+walk-by-type-only w s = only-order _ refl (none-only (foundCase (w .«record_type») (w .next) s))
+
+pub walk-records-only : (at : ℕ) (s : List ℕ) → Only (NoSuch ∷ []) (walkRecordsCase at s)
+unfolding walkRecordsCase
+walk-records-only at s = none-only (plaintextCase (drop at s))
 
 -- where none is found it is NoSuch
 pub no-such : {A : Type 0} (x : Answer A) → Only (NoSuch ∷ []) (numberIn (orNoSuch x))

@@ -7,13 +7,14 @@ use mathlib.Core.List.{List, [], _∷_}
 use mathlib.Core.Bool.{Bool, true, false}
 use mathlib.Core.Option.{Option, none, some}
 use native.Mathlib.Omega.{arith}
-use borrow.Author.Tests.{leb-true, leb-false, eqb-false, lt-ltb, ltb-true}
+use borrow.Author.Tests.{leb-true, leb-false, eqb-true, eqb-false, lt-ltb, ltb-true}
 use lib.ListN.{length, drop}
 use lib.Dec.{leb, ltb, eqb}
 use Rattle.refusal.specs.Answers.{Answer, accepted, refused, then, giving, within, numberIn}
 use Rattle.refusal.specs.Refusals.{numberOf, refusal, unplaced}
 use Rattle.refusal.specs.declared.Reason.the-variants.{Incomplete, Complete, Verify, LengthValue, Tag, Switch}
-use Rattle.refusal.specs.declared.Reason.the-variants.{TooLarge, Elsewhere, NoSuch}
+use Rattle.refusal.specs.declared.Reason.the-variants.{TooLarge, NoSuch}
+use Rattle.refusal.specs.declared.Refusal.{Refusal}
 use Rattle.refusal.proofs.Told.{its-reason, unplaced-reason, inside-reason}
 use Rattle.refusal.proofs.Then.{then-accepted}
 use Rattle.wire.specs.Parts.{pick, ifSome, lookup, partOf}
@@ -40,23 +41,35 @@ use Rattle.open_hellos.specs.HelloMessages.{serverMessage}
 use Rattle.open_whole.specs.Whole.{wholeBody}
 use Rattle.envelope.specs.declared.TlsMessageHead.{TlsMessageHead}
 use Rattle.envelope.specs.Opening.{headAt, Met, openings, opened, byType, byTypeIn, metAt, message}
+use Rattle.content.specs.Contents.{oneOrTwo, cipherSpecAt, alertAt, heartbeat, heartbeatIn, changeCipherSpec}
+use Rattle.content.specs.Contents.{alertFirst, applicationData, heartbeatOf}
+use Rattle.content.specs.declared.TlsMessage.the-variants.{Alert, ChangeCipherSpec, Heartbeat}
 use Rattle.record_walk.specs.Walks.{metHead, nextMessage}
-use Rattle.record_walk.specs.declared.TlsRecordWalk.{TlsRecordWalk}
+use Rattle.record_walk.specs.declared.TlsHandshakeWalk.{TlsHandshakeWalk}
+use Rattle.content_walk.specs.ContentWalks.{cipherSpecFound, alertFound, handshakeFound, applicationFound}
+use Rattle.content_walk.specs.ContentWalks.{heartbeatFound, foundAt, pastAt, isSingle, nextMessage as nextByType}
+use Rattle.content_walk.specs.declared.TlsFound.{TlsFound}
+use Rattle.content_walk.specs.declared.TlsRecordWalk.{TlsRecordWalk}
 use Rattle.record.specs.Records.{header, raw, encrypted}
+use Rattle.record.specs.declared.TlsRecordHeader.{TlsRecordHeader}
 use Rattle.record.specs.declared.TlsRawRecord.{TlsRawRecord}
-use Rattle.record_open.specs.declared.TlsPlaintextOpened.{TlsPlaintextOpened}
-use Rattle.record_open.specs.Plaintext.{firstRefusal, asFirst, plainRecord, handshakes, otherType, openedFirst}
-use Rattle.record_open.specs.Plaintext.{plaintext}
+use Rattle.record_open.specs.Plaintext.{firstRefusal, asFirst, ofContent, asContent, firstOf, contents}
+use Rattle.record_open.specs.Plaintext.{plainRecord, openedFirst, plaintext, withHeader, recordMet}
+use Rattle.record_many.specs.Many.{plaintextFrom, many, recordsTold, nextRecord}
+use Rattle.record_many.specs.declared.TlsRecordsWalk.{TlsRecordsWalk}
 use Rattle.record_joined.specs.Joined.{recordFrom}
 use Rattle.claim_readers.specs.Readers.{_&_, end, inOrder, less, over, beside, clientCase, startCase, serverCase}
 use Rattle.claim_readers.specs.Readers.{byVersionCase, draft18Case, serverMessageCase, retryCase, ticketCase}
 use Rattle.claim_readers.specs.Readers.{certificateCase, requestCase, statusCase, nextProtocolCase}
 use Rattle.claim_readers.specs.Readers.{keyUpdateCase, wholeCase, openedCase, bodyCase, headChecks, headCase}
-use Rattle.claim_readers.specs.Readers.{metCase, headerCase, rawCase, ofFirst, recordTypeCase, plaintextCase}
-use Rattle.claim_readers.specs.Readers.{placeCase, itemCase, itemCount, walkCase}
+use Rattle.claim_readers.specs.Readers.{metCase, cipherSpecCase, alertCase, applicationCase, heartbeatCase}
+use Rattle.claim_readers.specs.Readers.{heartbeatInCase, foundCase, headerCase, rawCase, ofFirst, recordTypeCase}
+use Rattle.claim_readers.specs.Readers.{plaintextCase, manyCase, placeCase, itemCase, itemCount, walkCase}
+use Rattle.claim_readers.specs.Readers.{walkByTypeCase, walkRecordsCase}
 use Rattle.claim_readers.proofs.Checks.{number-on, number-within, number-else, number-pick, then-assoc, not-leb}
 use Rattle.claim_readers.proofs.Checks.{not-even, by-test, fewer-first, part-taken, number-then, fixed-then}
-use Rattle.claim_readers.proofs.Checks.{vector-then, form-then, form-number, by-number, outside, either-side}
+use Rattle.claim_readers.proofs.Checks.{vector-then, form-then, form-number, by-number, outside, not-between}
+use Rattle.claim_readers.proofs.Checks.{between, and-under, valueAt}
 
 pub client-hello : (s : List ℕ) → numberIn (reading client s) ≡ clientCase s
 unfolding clientCase inOrder
@@ -324,35 +337,142 @@ record-at at s =
     })
     ∙ raw-record (drop at s)
 
+-- a number that is 1, and one that is 1 or 2
+just-one : {A : Type 0} (v : ℕ) (x y : A) → pick (eqb v 1) x y ≡ pick (ltb v 1) y (pick (ltb 1 v) y x)
+just-one v x y =
+    between 1 1 v (eqb v 1) x y
+    (λ q. let e : v ≡ 1 = eqb-true v 1 q in (omega (arith, e), omega (arith, e)))
+    (λ q h. omega (arith, eqb-false v 1 q))
+
+one-of-two : {A : Type 0} (v : ℕ) (x y : A) → pick (oneOrTwo v) x y ≡ pick (ltb v 1) y (pick (ltb 2 v) y x)
+one-of-two v x y =
+    by-number (λ n. pick (oneOrTwo n) x y ≡ pick (ltb n 1) y (pick (ltb 2 n) y x)) (1 ∷ 2 ∷ []) (refl & refl & end) v
+    (λ (a, (b, _)).
+    let f : 1 ≤ v → 2 < v = λ h. omega (arith, eqb-false v 1 a, eqb-false v 2 b) in
+    rw (a, b) (sym (outside 1 2 v y x f)))
+
+pub cipher-specs : (at : ℕ) (s : List ℕ) → numberIn (cipherSpecAt s at) ≡ cipherSpecCase at s
+unfolding cipherSpecAt cipherSpecCase inOrder
+cipher-specs at s = rw (number-then, number-pick, its-reason LengthValue at 0, just-one (be 1 s at))
+
+pub cipher-spec-first : (s : List ℕ) → numberIn (changeCipherSpec s) ≡ cipherSpecCase 0 s
+unfolding changeCipherSpec
+cipher-spec-first s = number-on (cipherSpecAt s 0) (λ n. ChangeCipherSpec) ∙ cipher-specs 0 s
+
+pub alerts : (at : ℕ) (s : List ℕ) → numberIn (alertAt s at) ≡ alertCase at s
+unfolding alertAt alertCase inOrder
+alerts at s =
+    let level = be 1 s at in
+    let e : at + 1 + 1 ≡ at + 2 = omega arith in
+    rw (number-then, number-pick, number-then, its-reason LengthValue at 0, one-of-two level, e)
+
+pub alerts-first : (s : List ℕ) → numberIn (alertFirst s) ≡ alertCase 0 s
+unfolding alertFirst
+alerts-first s = number-on (alertAt s 0) Alert ∙ alerts 0 s
+
+pub application : (s : List ℕ) → numberIn (applicationData s) ≡ applicationCase s
+unfolding applicationData applicationCase
+application s = refl
+
+pub heartbeats : (s : List ℕ) → numberIn (heartbeat s) ≡ heartbeatCase s
+unfolding heartbeat heartbeatCase inOrder
+heartbeats s =
+    let a : 1 ≤ 3 = omega arith in
+    rw (
+      number-then,
+      number-then,
+      fewer-first (length s) 1 3,
+      number-pick,
+      and-under,
+      its-reason LengthValue 0 0,
+      one-of-two (be 1 s 0),
+    )
+
+pub heartbeats-in : (n : ℕ) (s : List ℕ) → numberIn (heartbeatIn n s) ≡ heartbeatInCase n s
+unfolding heartbeatIn heartbeatInCase inOrder
+heartbeats-in n s =
+    rw (fixed-then, number-within, heartbeats, part-taken s 0 n 1 heartbeatCase, zero-add)
+
+pub heartbeats-of : (n : ℕ) (s : List ℕ) → numberIn (heartbeatOf n s) ≡ heartbeatInCase n s
+unfolding heartbeatOf
+heartbeats-of n s = number-on (heartbeatIn n s) Heartbeat ∙ heartbeats-in n s
+
+pub meets-by-type : (t at : ℕ) (s : List ℕ) → numberIn (foundAt t s at) ≡ foundCase t at s
+unfolding foundAt cipherSpecFound alertFound handshakeFound applicationFound heartbeatFound foundCase beside
+meets-by-type t at s =
+    by-number (λ k. numberIn (foundAt k s at) ≡ foundCase k at s) (0x14 ∷ 0x15 ∷ 0x16 ∷ 0x17 ∷ 0x18 ∷ [])
+    ((number-on (cipherSpecAt s at) _ ∙ cipher-specs at s)
+    & (number-on (alertAt s at) _ ∙ alerts at s)
+    & (number-on (metAt s at) _ ∙ meets at s)
+    & (number-on (applicationData s) _ ∙ application s)
+    & (number-on (heartbeat s) _ ∙ heartbeats s)
+    & end) t
+    (λ (a, (b, (c, (d, (e, _))))). rw (a, b, c, d, e, its-reason Switch 0 0))
+
+pub meets-end : (t at : ℕ) (s : List ℕ) → numberIn (pastAt t s at) ≡ foundCase t at s
+unfolding pastAt
+meets-end t at s = number-on (foundAt t s at) (λ x. x .next) ∙ meets-by-type t at s
+
 -- Incomplete from the first message becomes Complete
-first-number : {A : Type 0} (at : ℕ) (x : Answer A) → numberIn (asFirst at x) ≡ ofFirst (numberIn x)
-first-number at (accepted a) = refl
-first-number at (refused r) = go (eqb (numberOf (r .reason)) 1) refl
+first-reason : (at : ℕ) (r : Refusal) → numberOf (firstRefusal at r .reason) ≡ ofFirst (numberOf (r .reason))
+first-reason at r = go (eqb (numberOf (r .reason)) 1) refl
   where
     go : (t : Bool) → eqb (numberOf (r .reason)) 1 ≡ t
         → numberOf (firstRefusal at r .reason) ≡ ofFirst (numberOf (r .reason))
     go true q = rw q (ap numberOf (its-reason Complete at 0))
     go false q = rw q (ap numberOf (inside-reason at r))
 
-handshake-number : (r : TlsRawRecord) (content : List ℕ) → numberIn (handshakes r content) ≡ ofFirst (metCase 0 content)
-unfolding handshakes
-handshake-number r content =
-    number-on (asFirst (r .«data» .start) (metAt content 0))
-    (λ x. record { «record» = plainRecord r content; head = x .head; message = x .says })
-    ∙ rw (← meets 0 content) (first-number (r .«data» .start) (metAt content 0))
+first-number : {A : Type 0} (at : ℕ) (x : Answer A) → numberIn (asFirst at x) ≡ ofFirst (numberIn x)
+first-number at (accepted a) = refl
+first-number at (refused r) = first-reason at r
 
--- by the record's type
-abbrev byRecordType : ℕ → TlsRawRecord → List ℕ → Answer TlsPlaintextOpened
-byRecordType t r content = pick (eqb t 0x16) (handshakes r content) (refused (otherType t))
+-- but stays where the content is one message
+content-number : {A : Type 0} (t at : ℕ) (x : Answer A)
+    → numberIn (asContent t at x) ≡ pick (isSingle t) (numberIn x) (ofFirst (numberIn x))
+content-number t at (accepted a) = go (isSingle t)
+  where
+    go : (b : Bool) → _≡_ {A = ℕ} 0 (pick b 0 0)
+    go true = refl
+    go false = refl
+content-number t at (refused r) = go (isSingle t) refl
+  where
+    go : (b : Bool) → isSingle t ≡ b
+        → numberOf (ofContent t at r .reason)
+        ≡ pick (isSingle t) (numberOf (r .reason)) (ofFirst (numberOf (r .reason)))
+    go true q = rw q (ap numberOf (inside-reason at r))
+    go false q = rw q (first-reason at r)
 
-by-record-type : (t : ℕ) (r : TlsRawRecord) (content : List ℕ)
-    → numberIn (byRecordType t r content) ≡ recordTypeCase t content
-unfolding recordTypeCase inOrder
-by-record-type t r content =
-    let elsewhere = ap numberOf (its-reason Elsewhere 0 0) in
-    by-number (λ x. numberIn (byRecordType x r content) ≡ recordTypeCase x content)
-    (0x14 ∷ 0x15 ∷ 0x16 ∷ 0x17 ∷ 0x18 ∷ [])
-    (elsewhere & elsewhere & handshake-number r content & elsewhere & elsewhere & end) t
+-- a first message that is not all there, of the two kinds that have no length
+spec-first : (a b c : Bool)
+    → ofFirst (pick a 1 (pick b 4 (pick c 4 0))) ≡ pick a 2 (pick b 4 (pick c 4 0))
+spec-first true b c = refl
+spec-first false true c = refl
+spec-first false false true = refl
+spec-first false false false = refl
+
+alert-first : (a b c d : Bool)
+    → ofFirst (pick a 1 (pick b 4 (pick c 4 (pick d 1 0)))) ≡ pick a 2 (pick b 4 (pick c 4 (pick d 2 0)))
+alert-first true b c d = refl
+alert-first false true c d = refl
+alert-first false false true d = refl
+alert-first false false false true = refl
+alert-first false false false false = refl
+
+pub content-first : (at t : ℕ) (content : List ℕ) → numberIn (firstOf t at content) ≡ recordTypeCase t content
+unfolding firstOf recordTypeCase foundCase cipherSpecCase alertCase applicationCase inOrder beside
+content-first at t content =
+    let l = length content in
+    let v = be 1 content 0 in
+    let found : (k : ℕ) → numberIn (asContent k at (foundAt k content 0))
+    ≡ pick (isSingle k) (foundCase k 0 content) (ofFirst (foundCase k 0 content))
+    = λ k. rw (content-number k at (foundAt k content 0), meets-by-type k 0 content) in
+    by-number (λ k. numberIn (firstOf k at content) ≡ recordTypeCase k content) (0x14 ∷ 0x15 ∷ 0x16 ∷ 0x17 ∷ 0x18 ∷ [])
+    ((found 0x14 ∙ spec-first (ltb l 1) (ltb v 1) (ltb 1 v))
+    & (found 0x15 ∙ alert-first (ltb l 1) (ltb v 1) (ltb 2 v) (ltb l 2))
+    & found 0x16
+    & found 0x17
+    & found 0x18
+    & end) t
     (λ (a, (b, (c, (d, (e, _))))).
     let f : 0x14 ≤ t → 0x18 < t = λ h. omega (
       arith,
@@ -362,17 +482,58 @@ by-record-type t r content =
       eqb-false t 0x17 d,
       eqb-false t 0x18 e,
     ) in
-    rw (c, either-side 0x14 0x18 t f, its-reason Switch 0 0) (sym (outside 0x14 0x18 t (numberOf Switch) _ f)))
+    rw (not-between 0x14 0x18 t f, its-reason Switch 0 0) (sym (outside 0x14 0x18 t (numberOf Switch) _ f)))
+
+pub content-of : (hdr : TlsRecordHeader) (s : List ℕ)
+    → numberIn (withHeader hdr s) ≡ recordTypeCase (hdr .«record_type») s
+unfolding withHeader contents
+content-of hdr s = number-on (firstOf (hdr .«record_type») 0 s) _ ∙ content-first 0 (hdr .«record_type») s
+
+-- a record, and what its content is by its type
+record-then : {B : Type 0} (s : List ℕ) (f : TlsRawRecord → TlsFound → B)
+    → numberIn (then (reading raw s)
+    (λ r. giving (f r) (firstOf (r .hdr .«record_type») (r .«data» .start) (partOf s (r .«data»)))))
+    ≡ plaintextCase s
+unfolding plaintextCase inOrder
+record-then s f =
+    let large = by-test (leb (be 2 s 3) 16640) (λ at behind. refusal TooLarge at 0) 3 5 (its-reason TooLarge 3 0) in
+    rw (
+      form-then,
+      number-on (firstOf (be 1 s 0) 5 (partOf s (record { start = 5; len = be 2 s 3 }))) (f (valueAt raw s)),
+      content-first 5 (be 1 s 0),
+      part-taken s 5 (be 2 s 3) 1 (recordTypeCase (be 1 s 0)),
+      large,
+      not-leb,
+    )
 
 pub plaintext-opened : (s : List ℕ) → numberIn (openedFirst s) ≡ plaintextCase s
-unfolding openedFirst plaintextCase inOrder
+unfolding openedFirst contents
 plaintext-opened s =
-    let large = by-test (leb (be 2 s 3) 16640) (λ at behind. refusal TooLarge at 0) 3 5 (its-reason TooLarge 3 0) in
-    rw (form-then, by-record-type (be 1 s 0), part-taken s 5 (be 2 s 3) 1 (recordTypeCase (be 1 s 0)), large, not-leb)
+    record-then s (λ r x. record {
+      «record» = plainRecord r (partOf s (r .«data»));
+      body = x .body;
+      message = x .message;
+    })
 
 pub plaintext-record : (s : List ℕ) → numberIn (plaintext s) ≡ plaintextCase s
 unfolding plaintext
 plaintext-record s = number-on (openedFirst s) (λ x. x .«record») ∙ plaintext-opened s
+
+pub plaintext-met : (s : List ℕ) → numberIn (recordMet s) ≡ plaintextCase s
+unfolding recordMet
+plaintext-met s = record-then s (λ r x. r)
+
+pub plaintext-at : (at : ℕ) (s : List ℕ) → numberIn (plaintextFrom s at) ≡ plaintextCase (drop at s)
+unfolding plaintextFrom
+plaintext-at at s =
+    number-on (within at (plaintext (drop at s))) _ ∙ number-within at (plaintext (drop at s))
+    ∙ plaintext-record (drop at s)
+
+pub plaintext-many : (s : List ℕ) → numberIn (many s) ≡ manyCase s
+unfolding many manyCase
+plaintext-many s =
+    number-on (asFirst 0 (plaintextFrom s 0)) (λ p. recordsTold s 0)
+    ∙ first-number 0 (plaintextFrom s 0) ∙ ap ofFirst (plaintext-at 0 s)
 
 pub number-place : {A : Type 0} (k : ℕ) (xs : List A) → numberIn (place k xs) ≡ placeCase k (length xs)
 unfolding placeCase inOrder
@@ -433,6 +594,21 @@ any-number-place w k s =
 pub number-places : (w k : ℕ) → 1 ≤ w → (s : List ℕ) → numberIn (numberPlace k w s) ≡ placeCase k (length s / w)
 number-places w k one s = rw (← count-of w one s) (any-number-place w k s)
 
-pub walks : (w : TlsRecordWalk) (s : List ℕ) → numberIn (nextMessage s w) ≡ walkCase (w .next) s
+pub walks : (w : TlsHandshakeWalk) (s : List ℕ) → numberIn (nextMessage s w) ≡ walkCase (w .next) s
 unfolding nextMessage walkCase
 walks w s = rw (number-on _ (λ (x : Met). x .says), number-else, meets (w .next) s, its-reason NoSuch 0 0)
+
+pub walks-by-type : (w : TlsRecordWalk) (s : List ℕ) → numberIn (nextByType s w) ≡ walkByTypeCase w s
+unfolding nextByType walkByTypeCase inOrder
+walks-by-type w s =
+    rw (
+      number-on _ (λ (x : TlsFound). x .message),
+      number-pick,
+      number-else,
+      meets-by-type (w .«record_type») (w .next) s,
+      its-reason NoSuch 0 0,
+    )
+
+pub walks-records : (w : TlsRecordsWalk) (s : List ℕ) → numberIn (nextRecord s w) ≡ walkRecordsCase (w .next) s
+unfolding nextRecord walkRecordsCase
+walks-records w s = rw (number-else, plaintext-at (w .next) s, its-reason NoSuch 0 0)

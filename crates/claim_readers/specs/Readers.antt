@@ -3,7 +3,7 @@
 -- with no field, rule, grammar or step in it; `places` alone, of any field's items, takes their
 -- count from `items`. At the end, `Readers`, a table: each reader, its case, its refusals. Shown by
 -- `proofs/Table.antt`.
-use Rattle.refusal.specs.{ℕ, zero, suc, _+_, _/_, _%_, _≤_, _≡_, List, [], _∷_, Bool, length, take, drop, leb, ltb, eqb, Answer, numberIn, numberOf, Reason, Incomplete, Complete, Verify, LengthValue, Tag, Switch, TooLarge, Elsewhere, NoSuch, OneOf}
+use Rattle.refusal.specs.{ℕ, zero, suc, _+_, _/_, _%_, _≤_, _≡_, List, [], _∷_, Bool, length, take, drop, leb, ltb, eqb, Answer, numberIn, numberOf, Reason, Incomplete, Complete, Verify, LengthValue, Tag, Switch, TooLarge, NoSuch, OneOf}
 use Rattle.wire.specs.{pick, be, numberAt, View}
 use Rattle.field.specs.{Field, sized}
 use Rattle.grammar.specs.{reading, byVersion}
@@ -17,9 +17,13 @@ use Rattle.message.specs.{TlsMessageHandshake}
 use Rattle.open_hellos.specs.HelloMessages.{serverMessage}
 use Rattle.open_whole.specs.Whole.{wholeBody}
 use Rattle.envelope.specs.{headAt, opened, byType, metAt, message}
-use Rattle.record_walk.specs.{metHead, nextMessage, TlsRecordWalk}
+use Rattle.content.specs.{cipherSpecAt, alertAt, heartbeat, heartbeatIn, changeCipherSpec, alertFirst, applicationData, heartbeatOf}
+use Rattle.record_walk.specs.{metHead, nextMessage, TlsHandshakeWalk}
+use Rattle.content_walk.specs.{foundAt, pastAt, TlsRecordWalk}
+use Rattle.content_walk.specs.ContentWalks.{nextMessage as nextByType}
 use Rattle.record.specs.{header, raw, encrypted}
-use Rattle.record_open.specs.{plaintext, openedFirst}
+use Rattle.record_open.specs.{firstOf, plaintext, openedFirst, withHeader, recordMet}
+use Rattle.record_many.specs.{plaintextFrom, many, nextRecord, TlsRecordsWalk}
 use Rattle.record_joined.specs.Joined.{recordFrom}
 
 -- a check: where it holds, this is the refusal
@@ -191,16 +195,80 @@ rawCase s = inOrder (recordChecks s) 0
 abbrev pub ofFirst : ℕ → ℕ
 ofFirst c = pick (eqb c (numberOf Incomplete)) (numberOf Complete) c
 
--- RULES 6.9: by a record's type, Switch and Elsewhere; what is left is 0x16
+-- RULES 6.15, RFC 5246 7.1. The ChangeCipherSpec at a place: a byte of value 1
+unfoldable pub cipherSpecCase : ℕ → List ℕ → ℕ
+cipherSpecCase at s =
+    let value = be 1 s at in
+    inOrder (under s (at + 1) Incomplete ∷ less value 1 LengthValue ∷ over value 1 LengthValue ∷ []) 0
+
+-- RULES 6.16, RFC 5246 7.2. The alert at a place: level 1, of value 1 or 2, and description 1
+unfoldable pub alertCase : ℕ → List ℕ → ℕ
+alertCase at s =
+    let level = be 1 s at in
+    inOrder
+    (under s (at + 1) Incomplete
+    ∷ less level 1 LengthValue
+    ∷ over level 2 LengthValue
+    ∷ under s (at + 2) Incomplete
+    ∷ [])
+    0
+
+-- RULES 6.17: application data is never refused
+unfoldable pub applicationCase : List ℕ → ℕ
+applicationCase s = 0
+
+-- RULES 6.18, RFC 6520 4. The heartbeat that all the bytes are: type 1, of value 1 or 2, length 2,
+-- payload, and 16 bytes of padding at least
+unfoldable pub heartbeatCase : List ℕ → ℕ
+heartbeatCase s =
+    let kind = be 1 s 0 in
+    inOrder
+    (under s 3 Incomplete
+    ∷ less kind 1 LengthValue
+    ∷ over kind 2 LengthValue
+    ∷ under s (3 + be 2 s 1 + 16) LengthValue
+    ∷ [])
+    0
+
+-- RULES 4.14: the one of a given length
+unfoldable pub heartbeatInCase : ℕ → List ℕ → ℕ
+heartbeatInCase n s = inOrder (under s n Incomplete ∷ []) (heartbeatCase (take n s))
+
+-- RULES 6.9: the message at a place by the type of its record; of application data and of a
+-- heartbeat it is the whole content, whatever the place. Every other type is Switch
+unfoldable pub foundCase : ℕ → ℕ → List ℕ → ℕ
+foundCase t at s =
+    beside t
+    ((0x14, cipherSpecCase at s)
+    ∷ (0x15, alertCase at s)
+    ∷ (0x16, metCase at s)
+    ∷ (0x17, applicationCase s)
+    ∷ (0x18, heartbeatCase s)
+    ∷ [])
+    (numberOf Switch)
+
+-- RULES 6.5, 6.9: the content of a record by its type, Switch for one that is not from 0x14 to
+-- 0x18. The first message decides, and where it is not all there it is Complete, but Incomplete for
+-- a heartbeat. What is left is 0x17, application data, which may be empty
 unfoldable pub recordTypeCase : ℕ → List ℕ → ℕ
 recordTypeCase t content =
-    inOrder
-    (less t 0x14 Switch ∷ over t 0x18 Switch ∷ is t 0x14 Elsewhere ∷ is t 0x15 Elsewhere ∷ is t 0x17 Elsewhere ∷ is t 0x18 Elsewhere ∷ [])
-    (ofFirst (metCase 0 content))
+    let first = be 1 content 0 in
+    inOrder (less t 0x14 Switch ∷ over t 0x18 Switch ∷ [])
+    (beside t
+    ((0x14, inOrder (under content 1 Complete ∷ less first 1 LengthValue ∷ over first 1 LengthValue ∷ []) 0)
+    ∷ (0x15, inOrder (under content 1 Complete ∷ less first 1 LengthValue ∷ over first 2 LengthValue ∷ under content 2 Complete ∷ []) 0)
+    ∷ (0x16, ofFirst (metCase 0 content))
+    ∷ (0x18, heartbeatCase content)
+    ∷ [])
+    0)
 
 -- RULES 6.2: a plaintext record, whose type decides at last
 unfoldable pub plaintextCase : List ℕ → ℕ
 plaintextCase s = inOrder (recordChecks s) (recordTypeCase (be 1 s 0) (take (be 2 s 3) (drop 5 s)))
+
+-- RULES 6.20: joined records, the refusal of the first, Complete where it is Incomplete
+unfoldable pub manyCase : List ℕ → ℕ
+manyCase s = ofFirst (plaintextCase s)
 
 -- RULES 2.8: NoSuch from the count on
 unfoldable pub placeCase : ℕ → ℕ → ℕ
@@ -216,9 +284,21 @@ unfoldable pub itemCount : ℕ → ℕ → ℕ → List ℕ → ℕ
 itemCount zero w at s = 0
 itemCount (suc most) w at s = pick (eqb (itemCase w at s) 0) (suc (itemCount most w (at + w + be w s at) s)) 0
 
+-- where there is none, whatever the refusal, NoSuch
+abbrev pub orNone : ℕ → ℕ
+orNone c = pick (eqb c 0) 0 (numberOf NoSuch)
+
 -- RULES 6.8: the walk at a place, NoSuch past the last message
 unfoldable pub walkCase : ℕ → List ℕ → ℕ
-walkCase at s = pick (eqb (metCase at s) 0) 0 (numberOf NoSuch)
+walkCase at s = orNone (metCase at s)
+
+-- the same by the record's type; behind a message that is the whole content it is ended
+unfoldable pub walkByTypeCase : TlsRecordWalk → List ℕ → ℕ
+walkByTypeCase w s = inOrder ((w .ended, NoSuch) ∷ []) (orNone (foundCase (w .«record_type») (w .next) s))
+
+-- RULES 6.20: the walk over joined records, NoSuch at the first that is refused
+unfoldable pub walkRecordsCase : ℕ → List ℕ → ℕ
+walkRecordsCase at s = orNone (plaintextCase (drop at s))
 
 infixr 60 _&_
 -- of each of a list, in order
@@ -237,7 +317,8 @@ pub record Gives {L A : Type 0} (reader : L → Answer A) (case : L → ℕ) (wh
 abbrev pub GivesTold : {P A : Type 0} → (P → List ℕ → Answer A) → (P → List ℕ → ℕ) → List Reason → Type 0
 GivesTold {P} reader case whys = Gives (λ (lent : P × List ℕ). reader (lent .0) (lent .1)) (λ lent. case (lent .0) (lent .1)) whys
 
--- the refusals of a message: Complete is a CertificateRequest's
+-- the refusals of a message: Complete is a CertificateRequest's; in a record also of a first
+-- message that is not all there
 abbrev pub ofMessage : List Reason
 ofMessage = Incomplete ∷ Complete ∷ Verify ∷ LengthValue ∷ Tag ∷ Switch ∷ []
 
@@ -268,13 +349,32 @@ pub record Readers : Type 0 where
   pub meets : GivesTold (λ at s. metAt s at) metCase ofMessage
   pub meetsHead : GivesTold (λ at s. metHead s at) metCase ofMessage
   pub messageFirst : Gives message (metCase 0) ofMessage
+  -- the messages of other records, at a place and at the front; application data gives no refusal
+  pub cipherSpecs : GivesTold (λ at s. cipherSpecAt s at) cipherSpecCase (Incomplete ∷ LengthValue ∷ [])
+  pub cipherSpecFirst : Gives changeCipherSpec (cipherSpecCase 0) (Incomplete ∷ LengthValue ∷ [])
+  pub alerts : GivesTold (λ at s. alertAt s at) alertCase (Incomplete ∷ LengthValue ∷ [])
+  pub alertsFirst : Gives alertFirst (alertCase 0) (Incomplete ∷ LengthValue ∷ [])
+  pub application : Gives applicationData applicationCase []
+  pub heartbeats : Gives heartbeat heartbeatCase (Incomplete ∷ LengthValue ∷ [])
+  pub heartbeatsIn : GivesTold heartbeatIn heartbeatInCase (Incomplete ∷ LengthValue ∷ [])
+  pub heartbeatsOf : GivesTold heartbeatOf heartbeatInCase (Incomplete ∷ LengthValue ∷ [])
+  -- the message at a place by the type of its record, and where it ends
+  pub meetsByType : GivesTold (λ (told : ℕ × ℕ) s. foundAt (told .0) s (told .1)) (λ told. foundCase (told .0) (told .1)) ofMessage
+  pub meetsEnd : GivesTold (λ (told : ℕ × ℕ) s. pastAt (told .0) s (told .1)) (λ told. foundCase (told .0) (told .1)) ofMessage
   -- records
   pub recordHeader : Gives header headerCase (Incomplete ∷ [])
   pub rawRecord : Gives (reading raw) rawCase (Incomplete ∷ TooLarge ∷ [])
   pub encryptedRecord : Gives encrypted rawCase (Incomplete ∷ TooLarge ∷ [])
   pub recordAt : GivesTold (λ at s. recordFrom s at) (λ at s. rawCase (drop at s)) (Incomplete ∷ TooLarge ∷ [])
-  pub plaintextRecord : Gives plaintext plaintextCase (TooLarge ∷ Elsewhere ∷ ofMessage)
-  pub plaintextOpened : Gives openedFirst plaintextCase (TooLarge ∷ Elsewhere ∷ ofMessage)
+  -- the content of a record by its type, whatever the place where it begins; and by a header
+  pub contentFirst : (at : ℕ) → GivesTold (λ t. firstOf t at) recordTypeCase ofMessage
+  pub contentOf : GivesTold withHeader (λ hdr. recordTypeCase (hdr .«record_type»)) ofMessage
+  pub plaintextRecord : Gives plaintext plaintextCase (TooLarge ∷ ofMessage)
+  pub plaintextOpened : Gives openedFirst plaintextCase (TooLarge ∷ ofMessage)
+  pub plaintextMet : Gives recordMet plaintextCase (TooLarge ∷ ofMessage)
+  -- joined ones: the record at a place, and all of them
+  pub plaintextAt : GivesTold (λ at s. plaintextFrom s at) (λ at s. plaintextCase (drop at s)) (TooLarge ∷ ofMessage)
+  pub plaintextMany : Gives many manyCase (TooLarge ∷ Complete ∷ Verify ∷ LengthValue ∷ Tag ∷ Switch ∷ [])
   -- list places: of any field's items, of items (length w, bytes), of numbers of w bytes
   pub places : (f : Field) (k : ℕ) → Gives (λ s. place k (items f s)) (λ s. placeCase k (length (items f s))) (NoSuch ∷ [])
   pub itemPlaces : (w k : ℕ) → Gives (λ s. place k (items (sized w) s)) (λ s. placeCase k (itemCount (length s) w 0 s)) (NoSuch ∷ [])
@@ -282,8 +382,10 @@ pub record Readers : Type 0 where
   -- the item (length w, bytes) and the number of w bytes at a place of the bytes
   pub itemsFromPlace : (w : ℕ) → GivesTold (λ at s. itemFrom (sized w) s at) (itemCase w) (NoSuch ∷ [])
   pub numbers : (w : ℕ) → GivesTold (λ at s. numberAt w s at) (λ at. wholeCase (at + w)) (Incomplete ∷ [])
-  -- the walk over a record's content
-  pub walks : (w : TlsRecordWalk) → Gives (λ s. nextMessage s w) (walkCase (w .next)) (NoSuch ∷ [])
+  -- the walk over a handshake record's content, over one of any type, and over joined records
+  pub walks : (w : TlsHandshakeWalk) → Gives (λ s. nextMessage s w) (walkCase (w .next)) (NoSuch ∷ [])
+  pub walksByType : GivesTold (λ w s. nextByType s w) walkByTypeCase (NoSuch ∷ [])
+  pub walksRecords : (w : TlsRecordsWalk) → Gives (λ s. nextRecord s w) (walkRecordsCase (w .next)) (NoSuch ∷ [])
   -- the refusals alone, of numbers of any width and of any field's items
   pub anyNumberPlace : (w k : ℕ) (s : List ℕ) → OneOf (NoSuch ∷ []) (numberIn (numberPlace k w s))
   pub anyItemFrom : (f : Field) (at : ℕ) (s : List ℕ) → OneOf (NoSuch ∷ []) (numberIn (itemFrom f s at))

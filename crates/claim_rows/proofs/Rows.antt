@@ -16,53 +16,73 @@ use Rattle.read_others.specs.Body.{sessionTicket}
 use Rattle.open_hellos.specs.HelloMessages.{serverMessage}
 use Rattle.open_whole.specs.Whole.{wholeBody}
 use Rattle.envelope.specs.Opening.{headAt, byTypeIn, metAt, message}
-use Rattle.record_walk.specs.Walks.{pastAll}
-use Rattle.record_open.specs.Plaintext.{plainRecord, handshakes, openedFirst, plaintext}
+use Rattle.list.specs.Stopping.{endOf}
+use Rattle.content.specs.Contents.{cipherSpecAt, alertAt, heartbeat, heartbeatIn, changeCipherSpec, alertFirst}
+use Rattle.content.specs.Contents.{applicationData, heartbeatOf}
+use Rattle.content_walk.specs.ContentWalks.{cipherSpecFound, alertFound, handshakeFound, applicationFound}
+use Rattle.content_walk.specs.ContentWalks.{heartbeatFound, foundAt}
+use Rattle.record_open.specs.Plaintext.{firstOf, plainRecord, contents, openedFirst, plaintext}
+use Rattle.record_many.specs.Many.{plaintextFrom, recordsTold, many}
 use Rattle.claim_rows.specs.Readings.{rows, ownRows, AllRead}
 
 -- the rows by sevens, the last first
 r21 : AllRead (drop 21 rows)
-unfolding rows messageText headText numberText helloText mayWrite helloBytes join bytesOf message metAt headAt byTypeIn plaintext openedFirst handshakes plainRecord itemsFrom place pastAll byVersion certificateRequest reading read fieldsAt blockAt step ruled numberAt be partAt refusal inside
+unfolding rows messageText headText numberText helloText mayWrite helloBytes join bytesOf message metAt headAt byTypeIn plaintext openedFirst contents firstOf foundAt handshakeFound plainRecord itemsFrom place endOf byVersion certificateRequest reading read fieldsAt blockAt step ruled numberAt be partAt refusal inside
 r21 =
     ((refl, refl), ((refl, refl), ((refl, refl), ((refl, refl), ((refl, refl), ((refl, refl), ((refl, refl), tt)))))))
 
 r14 : AllRead (drop 14 rows)
-unfolding rows messageText headText numberText helloText mayWrite helloBytes join bytesOf message metAt headAt byTypeIn plaintext openedFirst handshakes plainRecord itemsFrom place pastAll byVersion certificateRequest reading read fieldsAt blockAt step ruled numberAt be partAt refusal inside
+unfolding rows messageText headText numberText helloText mayWrite helloBytes join bytesOf message metAt headAt byTypeIn plaintext openedFirst contents firstOf foundAt handshakeFound plainRecord itemsFrom place endOf byVersion certificateRequest reading read fieldsAt blockAt step ruled numberAt be partAt refusal inside
 r14 =
     ((refl, refl), ((refl, refl), ((refl, refl), ((refl, refl), ((refl, refl), ((refl, refl), ((refl, refl), r21)))))))
 
 r7 : AllRead (drop 7 rows)
-unfolding rows messageText headText numberText helloText mayWrite helloBytes join bytesOf message metAt headAt byTypeIn plaintext openedFirst handshakes plainRecord itemsFrom place pastAll byVersion certificateRequest reading read fieldsAt blockAt step ruled numberAt be partAt refusal inside
+unfolding rows messageText headText numberText helloText mayWrite helloBytes join bytesOf message metAt headAt byTypeIn plaintext openedFirst contents firstOf foundAt handshakeFound plainRecord itemsFrom place endOf byVersion certificateRequest reading read fieldsAt blockAt step ruled numberAt be partAt refusal inside
 r7 =
     ((refl, refl), ((refl, refl), ((refl, refl), ((refl, refl), ((refl, refl), ((refl, refl), ((refl, refl), r14)))))))
 
 all-read : AllRead rows
-unfolding rows messageText headText numberText helloText mayWrite helloBytes join bytesOf message metAt headAt byTypeIn plaintext openedFirst handshakes plainRecord itemsFrom place pastAll byVersion certificateRequest reading read fieldsAt blockAt step ruled numberAt be partAt refusal inside
+unfolding rows messageText headText numberText helloText mayWrite helloBytes join bytesOf message metAt headAt byTypeIn plaintext openedFirst contents firstOf foundAt handshakeFound plainRecord itemsFrom place endOf byVersion certificateRequest reading read fieldsAt blockAt step ruled numberAt be partAt refusal inside
 all-read =
     ((refl, refl), ((refl, refl), ((refl, refl), ((refl, refl), ((refl, refl), ((refl, refl), ((refl, refl), r7)))))))
 
+o49 : AllRead (drop 49 ownRows)
+unfolding ownRows many recordsTold plaintextFrom plaintext openedFirst contents firstOf foundAt cipherSpecFound alertFound handshakeFound applicationFound heartbeatFound changeCipherSpec alertFirst heartbeatOf heartbeatIn cipherSpecAt alertAt applicationData heartbeat metAt headAt plainRecord itemsFrom place endOf reading read fieldsAt blockAt step ruled numberAt be bytesOf partAt refusal inside
+o49 =
+    ((refl, refl), ((refl, refl), ((refl, refl), ((refl, refl), ((refl, refl), ((refl, refl), tt))))))
+
+o42 : AllRead (drop 42 ownRows)
+unfolding ownRows many recordsTold plaintextFrom plaintext openedFirst contents firstOf foundAt cipherSpecFound alertFound handshakeFound applicationFound heartbeatFound changeCipherSpec alertFirst heartbeatOf heartbeatIn cipherSpecAt alertAt applicationData heartbeat metAt headAt plainRecord itemsFrom place endOf reading read fieldsAt blockAt step ruled numberAt be bytesOf partAt refusal inside
+o42 =
+    ((refl, refl), ((refl, refl), ((refl, refl), ((refl, refl), ((refl, refl), ((refl, refl), ((refl, refl), o49)))))))
+
+o35 : AllRead (drop 35 ownRows)
+unfolding ownRows many recordsTold plaintextFrom plaintext openedFirst contents firstOf foundAt cipherSpecFound alertFound handshakeFound applicationFound heartbeatFound changeCipherSpec alertFirst heartbeatOf heartbeatIn cipherSpecAt alertAt applicationData heartbeat metAt headAt plainRecord itemsFrom place endOf reading read fieldsAt blockAt step ruled numberAt be bytesOf partAt refusal inside
+o35 =
+    ((refl, refl), ((refl, refl), ((refl, refl), ((refl, refl), ((refl, refl), ((refl, refl), ((refl, refl), o42)))))))
+
 o28 : AllRead (drop 28 ownRows)
-unfolding ownRows message metAt headAt byTypeIn serverMessage wholeBody sessionTicket certificateRequest plaintext openedFirst handshakes plainRecord itemsFrom pastAll byVersion reading read fieldsAt blockAt step ruled numberAt be bytesOf partAt refusal inside
+unfolding ownRows many recordsTold plaintextFrom plaintext openedFirst contents firstOf foundAt cipherSpecFound alertFound handshakeFound applicationFound heartbeatFound changeCipherSpec alertFirst heartbeatOf heartbeatIn cipherSpecAt alertAt applicationData heartbeat metAt headAt plainRecord itemsFrom place endOf reading read fieldsAt blockAt step ruled numberAt be bytesOf partAt refusal inside
 o28 =
-    ((refl, refl), ((refl, refl), ((refl, refl), ((refl, refl), ((refl, refl), tt)))))
+    ((refl, refl), ((refl, refl), ((refl, refl), ((refl, refl), ((refl, refl), ((refl, refl), ((refl, refl), o35)))))))
 
 o21 : AllRead (drop 21 ownRows)
-unfolding ownRows message metAt headAt byTypeIn serverMessage wholeBody sessionTicket certificateRequest plaintext openedFirst handshakes plainRecord itemsFrom pastAll byVersion reading read fieldsAt blockAt step ruled numberAt be bytesOf partAt refusal inside
+unfolding ownRows message metAt headAt byTypeIn serverMessage wholeBody sessionTicket certificateRequest plaintext openedFirst contents firstOf foundAt cipherSpecFound alertFound handshakeFound plainRecord itemsFrom endOf byVersion reading read fieldsAt blockAt step ruled numberAt cipherSpecAt alertAt be bytesOf partAt refusal inside
 o21 =
     ((refl, refl), ((refl, refl), ((refl, refl), ((refl, refl), ((refl, refl), ((refl, refl), ((refl, refl), o28)))))))
 
 o14 : AllRead (drop 14 ownRows)
-unfolding ownRows message metAt headAt byTypeIn serverMessage wholeBody sessionTicket certificateRequest plaintext openedFirst handshakes plainRecord itemsFrom pastAll byVersion reading read fieldsAt blockAt step ruled numberAt be bytesOf partAt refusal inside
+unfolding ownRows message metAt headAt byTypeIn serverMessage wholeBody sessionTicket certificateRequest plaintext openedFirst contents firstOf foundAt handshakeFound plainRecord itemsFrom endOf byVersion reading read fieldsAt blockAt step ruled numberAt be bytesOf partAt refusal inside
 o14 =
     ((refl, refl), ((refl, refl), ((refl, refl), ((refl, refl), ((refl, refl), ((refl, refl), ((refl, refl), o21)))))))
 
 o7 : AllRead (drop 7 ownRows)
-unfolding ownRows message metAt headAt byTypeIn serverMessage wholeBody sessionTicket certificateRequest plaintext openedFirst handshakes plainRecord itemsFrom pastAll byVersion reading read fieldsAt blockAt step ruled numberAt be bytesOf partAt refusal inside
+unfolding ownRows message metAt headAt byTypeIn serverMessage wholeBody sessionTicket certificateRequest plaintext openedFirst contents firstOf foundAt handshakeFound plainRecord itemsFrom endOf byVersion reading read fieldsAt blockAt step ruled numberAt be bytesOf partAt refusal inside
 o7 =
     ((refl, refl), ((refl, refl), ((refl, refl), ((refl, refl), ((refl, refl), ((refl, refl), ((refl, refl), o14)))))))
 
 all-own : AllRead ownRows
-unfolding ownRows message metAt headAt byTypeIn serverMessage wholeBody sessionTicket certificateRequest plaintext openedFirst handshakes plainRecord itemsFrom pastAll byVersion reading read fieldsAt blockAt step ruled numberAt be bytesOf partAt refusal inside
+unfolding ownRows message metAt headAt byTypeIn serverMessage wholeBody sessionTicket certificateRequest plaintext openedFirst contents firstOf foundAt handshakeFound plainRecord itemsFrom endOf byVersion reading read fieldsAt blockAt step ruled numberAt be bytesOf partAt refusal inside
 all-own =
     ((refl, refl), ((refl, refl), ((refl, refl), ((refl, refl), ((refl, refl), ((refl, refl), ((refl, refl), o7)))))))
 

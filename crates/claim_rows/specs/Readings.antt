@@ -1,7 +1,7 @@
 -- The eighteen rows of RULES 8 in one table, and readings of our own in a second one: a message of
--- each type but 0x00, which row 13 has, a ServerHello of each version, a record of each type. Bytes
--- are written by their number: `03 000001` is `bytesOf 4 0x03_000001`.
-use Rattle.refusal.specs.{ℕ, _≡_, List, [], _∷_, _++_, Option, none, some, replicate, numberOf, Answer, accepted, then, numberIn, valuesIn, Reason, Incomplete, Complete, Verify, LengthValue, Tag, Switch, TooLarge, Elsewhere, NoSuch}
+-- each type but 0x00, which row 13 has, a ServerHello of each version, records of each type, joined
+-- ones. Bytes are written by their number: `03 000001` is `bytesOf 4 0x03_000001`.
+use Rattle.refusal.specs.{ℕ, _+_, _≡_, List, [], _∷_, _++_, Option, none, some, replicate, numberOf, Answer, accepted, then, numberIn, valuesIn, Reason, Incomplete, Complete, Verify, LengthValue, Tag, Switch, TooLarge, NoSuch}
 use Rattle.wire.specs.{partOf, bytesOf, OptView, Absent, Present, View}
 use Rattle.field.specs.{sized}
 use Rattle.grammar.specs.{reading, byVersion}
@@ -10,10 +10,12 @@ use Rattle.write_rules.specs.{helloText, headText, messageText}
 use Rattle.read_client.specs.{client, TlsClientHelloContents}
 use Rattle.read_server.specs.{serverVersions, TlsServerHelloContents}
 use Rattle.read_certs.specs.{certificate, certificateRequest, TlsCertificateRequestContents}
-use Rattle.message.specs.{TlsMessageHandshake, HelloRequest, ClientHello, ServerHello, ServerHelloV13Draft18, NewSessionTicket, EndOfEarlyData, HelloRetryRequest, Certificate, ServerKeyExchange, CertificateRequest, ServerDone, CertificateVerify, ClientKeyExchange, Finished, CertificateStatus, NextProtocol, KeyUpdate, Unknown}
+use Rattle.message.specs.{HelloRequest, ClientHello, ServerHello, ServerHelloV13Draft18, NewSessionTicket, EndOfEarlyData, HelloRetryRequest, Certificate, ServerKeyExchange, CertificateRequest, ServerDone, CertificateVerify, ClientKeyExchange, Finished, CertificateStatus, NextProtocol, KeyUpdate, Unknown}
 use Rattle.envelope.specs.{message}
-use Rattle.record_walk.specs.{messages}
-use Rattle.record_open.specs.{plaintext}
+use Rattle.content.specs.{TlsMessage, Handshake, ChangeCipherSpec, Alert, ApplicationData, Heartbeat, changeCipherSpec, alertFirst, heartbeatOf}
+use Rattle.content_walk.specs.{messagesOf}
+use Rattle.record_open.specs.{plaintext, TlsPlaintext}
+use Rattle.record_many.specs.{many}
 
 -- a row: its number in RULES 8, 0 for one of our own; the function, the input, the number of the
 -- answer and the values
@@ -33,8 +35,9 @@ reject {A} n call s why = record { row = n; Value = A; call = call; input = s; n
 
 -- a function is told by what its contract says: `reading client` is
 -- `parse_tls_handshake_client_hello`, `byVersion serverVersions` and `certificateRequest` are those
--- of their bodies, `message` is `parse_tls_message_handshake`, `plaintext` is
--- `parse_tls_plaintext`; and this one hands what is read as a ClientHello to `gen_tls_clienthello`
+-- of their bodies, `message` is `parse_tls_message_handshake`, `changeCipherSpec`, `alertFirst` and
+-- `heartbeatOf` are those of these messages, `plaintext` is `parse_tls_plaintext`, `many` is
+-- `tls_parser_many`; and this one hands what is read as a ClientHello to `gen_tls_clienthello`
 abbrev pub writtenBack : List ℕ → Answer (List ℕ)
 writtenBack s = then (reading client s) (λ c. messageText (headText 0x01) (helloText client s c))
 
@@ -50,8 +53,8 @@ abbrev pub namesIn : List ℕ → Answer (List (List ℕ))
 namesIn s = then (certificateRequest s) (λ c. accepted (itemBytes 2 (partOf s (c .«unparsed_ca»))))
 
 -- the message at a place of a record: the walk over its content
-abbrev pub messageAt : ℕ → List ℕ → Answer TlsMessageHandshake
-messageAt k s = then (plaintext s) (λ p. then (place k (messages (partOf s (p .msg)))) (λ x. accepted (x .says)))
+abbrev pub messageAt : ℕ → List ℕ → Answer TlsMessage
+messageAt k s = then (plaintext s) (λ p. then (place k (messagesOf (p .hdr .«record_type») (partOf s (p .msg)))) (λ x. accepted (x .message)))
 
 -- `0303 Z` and what follows, Z being 32 zero bytes
 abbrev pub from0303Z : List ℕ → List ℕ
@@ -93,7 +96,7 @@ rows =
     ∷ reject 12 plaintext (bytesOf 5 0x16_0301_4101) TooLarge
     ∷ reject 12 plaintext (bytesOf 5 0x16_0301_4100) Incomplete
     ∷ accept 13 plaintext (bytesOf 10 0x16_0303_0005_00000000_01) (record { hdr = record { «record_type» = 0x16; version = 0x0303; len = 5 }; msg = span 5 5; count = 1; dropped = 1; next = 10 })
-    ∷ accept 13 (messageAt 0) (bytesOf 10 0x16_0303_0005_00000000_01) HelloRequest
+    ∷ accept 13 (messageAt 0) (bytesOf 10 0x16_0303_0005_00000000_01) (Handshake HelloRequest)
     ∷ reject 13 (messageAt 1) (bytesOf 10 0x16_0303_0005_00000000_01) NoSuch
     ∷ reject 14 (byVersion serverVersions) (bytesOf 2 0x0304) Tag
     ∷ reject 14 (byVersion serverVersions) (bytesOf 1 0x03) Incomplete
@@ -114,8 +117,16 @@ S version = bytesOf 2 version ++ (replicate 32 0 ++ bytesOf 6 0x00_002f_00_0000)
 abbrev pub plainServer : ℕ → OptView → ℕ → TlsServerHelloContents
 plainServer v ext tail = record { version = v; random = span 2 32; «session_id» = Absent; cipher = 0x002f; compression = 0x00; ext = ext; tail = tail }
 
+-- what is handed out of a record of a type and version 0x0303, its content of n bytes
+abbrev pub plain : ℕ → ℕ → ℕ → ℕ → TlsPlaintext
+plain t n count dropped = record { hdr = record { «record_type» = t; version = 0x0303; len = n }; msg = span 5 n; count = count; dropped = dropped; next = 5 + n }
+
+-- a heartbeat's record of a type, a payload of no bytes and n bytes of padding
+abbrev pub beat : ℕ → ℕ → List ℕ
+beat kind n = bytesOf 5 (0x18_0303_0000 + 3 + n) ++ (bytesOf 1 kind ++ (bytesOf 2 0x0000 ++ replicate n 0))
+
 -- our own: an id of exactly 32 and each version; each type, its parts of lengths that differ; each
--- record type
+-- record type, and joined records
 unfoldable pub ownRows : List RulesRow
 ownRows =
     accept 0 (reading client) (from0303Z (bytesOf 1 0x20 ++ (replicate 32 0 ++ bytesOf 8 0x0004_002f_0035_01_00)))
@@ -147,12 +158,34 @@ ownRows =
     ∷ reject 0 message (bytesOf 4 0x08_000000) Switch
     ∷ reject 0 message (bytesOf 4 0x15_000000) Switch
     ∷ reject 0 plaintext (bytesOf 6 0x13_0303_0001_01) Switch
-    ∷ reject 0 plaintext (bytesOf 6 0x14_0303_0001_01) Elsewhere
-    ∷ reject 0 plaintext (bytesOf 6 0x15_0303_0001_01) Elsewhere
+    ∷ accept 0 plaintext (bytesOf 6 0x14_0303_0001_01) (plain 0x14 1 1 0)
+    ∷ accept 0 plaintext (bytesOf 7 0x14_0303_0002_0102) (plain 0x14 2 1 1)
+    ∷ accept 0 (messageAt 0) (bytesOf 7 0x14_0303_0002_0102) ChangeCipherSpec
+    ∷ reject 0 (messageAt 1) (bytesOf 7 0x14_0303_0002_0102) NoSuch
+    ∷ reject 0 plaintext (bytesOf 5 0x14_0303_0000) Complete
+    ∷ reject 0 plaintext (bytesOf 6 0x14_0303_0001_02) LengthValue
+    ∷ reject 0 changeCipherSpec [] Incomplete
+    ∷ reject 0 plaintext (bytesOf 6 0x15_0303_0001_00) LengthValue
+    ∷ reject 0 plaintext (bytesOf 6 0x15_0303_0001_01) Complete
+    ∷ accept 0 plaintext (bytesOf 7 0x15_0303_0002_0228) (plain 0x15 2 1 0)
+    ∷ accept 0 (messageAt 0) (bytesOf 7 0x15_0303_0002_0228) (Alert (record { severity = 2; code = 0x28 }))
+    ∷ accept 0 plaintext (bytesOf 9 0x15_0303_0004_0100_0300) (plain 0x15 4 1 2)
+    ∷ accept 0 (messageAt 1) (bytesOf 9 0x15_0303_0004_0100_0228) (Alert (record { severity = 2; code = 0x28 }))
+    ∷ reject 0 alertFirst (bytesOf 1 0x01) Incomplete
     ∷ reject 0 plaintext (bytesOf 6 0x16_0303_0001_01) Complete
-    ∷ reject 0 plaintext (bytesOf 6 0x17_0303_0001_01) Elsewhere
-    ∷ reject 0 plaintext (bytesOf 6 0x18_0303_0001_01) Elsewhere
+    ∷ accept 0 plaintext (bytesOf 5 0x17_0303_0000) (plain 0x17 0 1 0)
+    ∷ accept 0 (messageAt 0) (bytesOf 6 0x17_0303_0001_01) (ApplicationData (record { blob = span 0 1 }))
+    ∷ reject 0 (messageAt 1) (bytesOf 6 0x17_0303_0001_01) NoSuch
+    ∷ reject 0 plaintext (bytesOf 7 0x18_0303_0002_0300) Incomplete
+    ∷ accept 0 plaintext (beat 1 16) (plain 0x18 19 1 0)
+    ∷ accept 0 (messageAt 0) (beat 2 17) (Heartbeat (record { «heartbeat_type» = 2; «payload_len» = 0; payload = span 3 0; padding = span 3 17 }))
+    ∷ reject 0 plaintext (beat 1 15) LengthValue
+    ∷ reject 0 plaintext (beat 3 16) LengthValue
+    ∷ reject 0 (heartbeatOf 3) (bytesOf 2 0x0100) Incomplete
     ∷ reject 0 plaintext (bytesOf 6 0x19_0303_0001_01) Switch
+    ∷ reject 0 many [] Complete
+    ∷ accept 0 many (bytesOf 7 0x14_0303_0002_0102 ++ bytesOf 7 0x15_0303_0002_0228) (record { count = 2; end = 14 })
+    ∷ accept 0 many (bytesOf 5 0x17_0303_0000 ++ bytesOf 6 0x14_0303_0001_02) (record { count = 1; end = 5 })
     ∷ []
 
 -- the claim over a table

@@ -46,9 +46,13 @@ use Rattle.write_draft18.proofs.Lengths.{draft18-length}
 use Rattle.write_others.specs.Exchange.{exchangeText}
 use Rattle.write_message.specs.Written.{handshakeText}
 use Rattle.write_record.specs.RecordTexts.{recordBytes, recordText}
+use Rattle.write_content.specs.ContentTexts.{contentText}
+use Rattle.claim_wayback.proofs.Contents.{spec-read, spec-are-bytes, spec-alone, alert-read, alert-are-bytes}
+use Rattle.claim_wayback.proofs.Contents.{alert-alone}
 use Rattle.claim_wayback.proofs.Demand3.{draft18-version, one-text, again-client, again-server, again-draft18}
 use Rattle.claim_wayback.proofs.Demand3.{again-by-version}
-use Rattle.claim_wayback.specs.WayBack.{framed, again, Found, ReadsHello, wholeOf, Messages, InRecord, WayBack}
+use Rattle.claim_wayback.specs.WayBack.{framed, again, Found, ReadsHello, wholeOf, Messages, InRecord, Contents}
+use Rattle.claim_wayback.specs.WayBack.{WayBack}
 
 -- the message at the front
 every : (msgType : ℕ) (b rest : List ℕ) → msgType < 256 → length b < 16777216
@@ -192,5 +196,24 @@ in-record hdr p t rest k v bp br e =
     let q = picked (allowed fragment (length p)) _ e in
     rw (q .1) at (record-front hdr p rest k v bp br (obeys fragment p (q .0)))
 
+contents : (s rest : List ℕ) → Contents s rest
+unfolding contentText
+contents s rest = record {
+  handshake = λ m. refl;
+  cipherSpec = λ t e. spec-read s t e rest;
+  alert = λ a t e. alert-read s a t e rest;
+  cipherSpecIn = λ hdr p t k v br e d.
+      spec-alone s p e hdr t rest k (in-record hdr p t rest (omega (arith, k)) v (spec-are-bytes s p e) br d);
+  alertIn = λ hdr a p t k v c br e d.
+      alert-alone s a p e hdr t rest k (in-record hdr p t rest (omega (arith, k)) v (alert-are-bytes s a p e c) br d);
+}
+
 pub way-back : WayBack
-way-back = record { every = every; texts = texts; messages = messages; all = all; records = in-record }
+way-back = record {
+  every = every;
+  texts = texts;
+  messages = messages;
+  contents = contents;
+  all = all;
+  records = in-record;
+}

@@ -1,7 +1,7 @@
 -- Demand 3, its writing half: what is written of a hello that was read, and what reading finds of
 -- hellos, messages and records that were written, whatever stands behind them. RULES 0.3, 7.6, 7.9,
--- 9.11. Shown by `proofs/Hellos.antt` for every form, `proofs/Demand3.antt` and
--- `proofs/WayBack.antt`.
+-- 7.13 to 7.15, 9.11. Shown by `proofs/Hellos.antt` for every form, `proofs/Demand3.antt`,
+-- `proofs/Contents.antt` and `proofs/WayBack.antt`.
 use Rattle.refusal.specs.{ℕ, _+_, _<_, _≤_, _≡_, List, [], _∷_, _++_, Bool, true, Option, none, some, length, take, drop, unplaced, Answer, accepted, refused, giving, NoRoom}
 use Rattle.wire.specs.{partOf, optPartOf, lookup, Bytes, bytesOf, room, written, OptView, Absent, Present, View}
 use Rattle.field.specs.{Field, fieldBytes}
@@ -12,8 +12,11 @@ use Rattle.read_server.specs.{server, serverVersions, draft18, TlsServerHelloCo
 use Rattle.message.specs.{TlsMessageHandshake, HelloRequest, ClientHello, ServerHello, ServerHelloV13Draft18, ClientKeyExchange, Finished, TlsClientKeyExchangeContents, Unknown}
 use Rattle.write_others.specs.Exchange.{exchangeText}
 use Rattle.write_message.specs.Written.{handshakeText}
+use Rattle.content.specs.{TlsMessage, TlsMessageAlert, Handshake, ChangeCipherSpec, Alert, changeCipherSpec, alertFirst}
+use Rattle.write_content.specs.ContentTexts.{contentText}
 use Rattle.envelope.specs.{byTypeIn, metAt}
 use Rattle.record.specs.{raw, TlsRecordHeader}
+use Rattle.record_open.specs.{plaintext, openedFirst, TlsPlaintext}
 use Rattle.write_record.specs.RecordTexts.{recordText}
 
 -- any text, written from the front of any output
@@ -136,6 +139,29 @@ pub record InRecord (hdr : TlsRecordHeader) (p text rest : List ℕ) : Type 0 wh
   -- its content has the bytes written
   pub bytes : partOf (text ++ rest) (record { start = 5; len = length p }) ≡ p
 
+-- a record of a type and a version whose content of n bytes is one message
+abbrev pub oneIn : ℕ → ℕ → ℕ → TlsPlaintext
+oneIn t v n = record { hdr = record { «record_type» = t; version = v; len = n }; msg = record { start = 5; len = n }; count = 1; dropped = 0; next = 5 + n }
+
+-- bytes that begin with such a record are opened as that message alone, and no byte is dropped
+pub record Alone (t v n : ℕ) (m : TlsMessage) (s : List ℕ) : Type 0 where
+  pub counted : plaintext s ≡ accepted (oneIn t v n)
+  pub opened : openedFirst s ≡ accepted (record { «record» = oneIn t v n; body = record { start = 0; len = n }; message = m })
+
+-- RULES 7.13 to 7.15: messages of every record type, written, and whatever stands behind
+pub record Contents (s rest : List ℕ) : Type 0 where
+  -- a handshake message has the text that it has by itself, so that `Messages` tells what is read
+  pub handshake : (m : TlsMessageHandshake) → contentText s (Handshake m) ≡ handshakeText s m
+  -- a ChangeCipherSpec is one byte, and is read
+  pub cipherSpec : (t : List ℕ) → contentText s ChangeCipherSpec ≡ accepted t → (length t ≡ 1) × (changeCipherSpec (t ++ rest) ≡ accepted ChangeCipherSpec)
+  -- an alert is two, and is read with its level and its description
+  pub alert : (a : TlsMessageAlert) (t : List ℕ) → contentText s (Alert a) ≡ accepted t → (length t ≡ 2) × (alertFirst (t ++ rest) ≡ accepted (Alert a))
+  -- so too in a record of its type
+  pub cipherSpecIn : (hdr : TlsRecordHeader) (p t : List ℕ) → hdr .«record_type» ≡ 0x14 → hdr .version < 65536 → Bytes rest
+      → contentText s ChangeCipherSpec ≡ accepted p → recordText hdr p ≡ accepted t → Alone 0x14 (hdr .version) 1 ChangeCipherSpec (t ++ rest)
+  pub alertIn : (hdr : TlsRecordHeader) (a : TlsMessageAlert) (p t : List ℕ) → hdr .«record_type» ≡ 0x15 → hdr .version < 65536 → a .code < 256 → Bytes rest
+      → contentText s (Alert a) ≡ accepted p → recordText hdr p ≡ accepted t → Alone 0x15 (hdr .version) 2 (Alert a) (t ++ rest)
+
 pub record WayBack : Type 0 where
   -- a message of any type and of any body that three bytes can count
   pub every : (msgType : ℕ) (b rest : List ℕ) → msgType < 256 → length b < 16777216 → Found msgType b (byTypeIn 0 4 msgType b) (framed msgType b) rest
@@ -144,6 +170,8 @@ pub record WayBack : Type 0 where
       → (b : List ℕ) × (body ≡ accepted b) × (length b < 16777216) × (framed msgType b ≡ t)
   -- the kinds that are written
   pub messages : (s rest : List ℕ) → Bytes s → Messages s rest
+  -- and the messages of every record type
+  pub contents : (s rest : List ℕ) → Contents s rest
   -- the view of a whole body names its bytes
   pub all : (b : List ℕ) → partOf b (wholeOf b) ≡ b
   -- RULES 7.11: it copies type, version and content

@@ -7,7 +7,8 @@ use mathlib.Core.Bool.{Bool, true, false, _&&_, and-true}
 use mathlib.Core.Logic.{inl, inr}
 use native.Mathlib.Omega.{arith}
 use native.Mathlib.Nat.{zero-add}
-use borrow.Author.Tests.{leb-true, leb-false, le-leb, lt-ltb, ltb-true, eqb-true, eq-eqb}
+use borrow.Author.Tests.{leb-true, leb-false, le-leb, lt-leb, lt-ltb, ltb-true, eqb-true, eqb-false}
+use borrow.Author.Tests.{eq-eqb}
 use lib.ListN.{length, length-append}
 use lib.Dec.{leb, ltb, eqb, leb·suc-suc}
 use Rattle.refusal.specs.Refusals.{numberOf, OneOf, refusal, unplaced}
@@ -70,6 +71,10 @@ use Rattle.message.specs.Messages.{WrittenBody, noBody, clientBody, serverBody,
 use Rattle.message.specs.Messages.{finishedBody, bodyWritten, notWritten}
 use Rattle.message.proofs.Written.{messageOf, by-written}
 use Rattle.write_message.specs.Written.{handshakeText}
+use Rattle.content.specs.Contents.{oneOrTwo}
+use Rattle.content.specs.declared.TlsMessage.{TlsMessage}
+use Rattle.content.specs.declared.TlsMessage.the-variants.{Handshake, ChangeCipherSpec, Alert, ApplicationData, Heartbeat}
+use Rattle.write_content.specs.ContentTexts.{cipherSpecText, alertText, contentText}
 use Rattle.grammar.specs.Splits.{join}
 use Rattle.record.specs.declared.TlsRecordHeader.{TlsRecordHeader}
 use Rattle.write_record.specs.RecordTexts.{recordBytes, recordText}
@@ -77,8 +82,7 @@ use Rattle.claim_writers.specs.Writers.{Case, comesTo, refusing, upTo, w
 use Rattle.claim_writers.specs.Writers.{randomFits, idFits, ciphersFit, extensionsFit, partFits, clientWrite}
 use Rattle.claim_writers.specs.Writers.{serverWrite, draft18Write, exchangeWrite, finishedWrite, requestWrite}
 use Rattle.claim_writers.specs.Writers.{handshakeWrite, recordWrite, wide, most, ruleFits, ruleRefuses}
-use Rattle.claim_writers.specs.Writers.{fieldWrite}
-use Rattle.claim_writers.specs.Writers.{Comes, Writers}
+use Rattle.claim_writers.specs.Writers.{cipherSpecWrite, alertWrite, contentWrite, fieldWrite, Comes, Writers}
 
 -- what a case comes to, with its refusals; and with one more
 comes : {t : Answer (List ℕ)} {at : ℕ} {out : List ℕ} {c : Case} {whys : List Reason} → comesTo (room t at out) ≡ c
@@ -358,6 +362,38 @@ handshake s m out =
     by-written (λ x. Comes (handshakeText s x) 0 out (handshakeWrite s x out)
     (NotYetImplemented ∷ BadLength ∷ NoRoom ∷ [])) (of-written s out) (λ x e a. of-other s out x e) m
 
+-- the other messages of a record
+cipher-byte : (out : List ℕ) → Comes cipherSpecText 0 out (cipherSpecWrite out) (NoRoom ∷ [])
+unfolding cipherSpecText
+cipher-byte out = case-yes (1 ∷ []) 0 1 out refl refl
+
+levels : (n : ℕ) → oneOrTwo n ≡ (leb 1 n && leb n 2)
+levels n = go (eqb n 1) (eqb n 2) refl refl
+  where
+    neither : (t : Bool) → leb 1 n ≡ t → eqb n 1 ≡ false → eqb n 2 ≡ false → (leb 1 n && leb n 2) ≡ false
+    neither true e p q = rw (e, lt-leb n 2 (omega (arith, leb-true 1 n e, eqb-false n 1 p, eqb-false n 2 q)))
+    neither false e p q = rw e
+
+    go : (a b : Bool) → eqb n 1 ≡ a → eqb n 2 ≡ b → oneOrTwo n ≡ (leb 1 n && leb n 2)
+    go true b p q = let e : n ≡ 1 = eqb-true n 1 p in rw e
+    go false true p q = let e : n ≡ 2 = eqb-true n 2 q in rw e
+    go false false p q = rw (p, q) (sym (neither (leb 1 n) refl p q))
+
+alert : (severity code : ℕ) (out : List ℕ)
+    → Comes (alertText severity code) 0 out (alertWrite severity out) (BadLength ∷ NoRoom ∷ [])
+unfolding alertText
+alert severity code out =
+    case-by BadLength (severity ∷ code ∷ []) (leb 1 severity && leb severity 2) 0 2 out (rw (levels severity)) refl
+
+content : (s : List ℕ) (m : TlsMessage) (out : List ℕ)
+    → Comes (contentText s m) 0 out (contentWrite s m out) (NotYetImplemented ∷ BadLength ∷ NoRoom ∷ [])
+unfolding contentText
+content s (Handshake m) out = handshake s m out
+content s ChangeCipherSpec out = wider NotYetImplemented (wider BadLength (cipher-byte out))
+content s (Alert a) out = wider NotYetImplemented (alert (a .severity) (a .code) out)
+content s (ApplicationData d) out = not-written out
+content s (Heartbeat h) out = not-written out
+
 plaintext : (hdr : TlsRecordHeader) (p out : List ℕ)
     → Comes (recordText hdr p) 0 out (recordWrite p out) (TooLarge ∷ NoRoom ∷ [])
 unfolding recordText join
@@ -410,6 +446,9 @@ every-writing s out = record {
   finished = λ v. finished s v out;
   helloRequest = hello-request out;
   handshake = λ m. handshake s m out;
+  cipherSpec = cipher-byte out;
+  alert = λ severity code. alert severity code out;
+  content = λ m. content s m out;
   plaintext = λ hdr. plaintext hdr s out;
   number = λ w n at. number w n at out;
   bytes = λ at. case-yes s at (length s) out refl refl;

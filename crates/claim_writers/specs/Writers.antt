@@ -12,6 +12,8 @@ use Rattle.read_server.specs.{server, draft18, TlsServerHelloContents, TlsServe
 use Rattle.message.specs.{TlsClientKeyExchangeContents, Dh, Ecdh, Unknown, TlsMessageHandshake, WrittenBody, noBody, clientBody, serverBody, draft18Body, exchangeBody, finishedBody, bodyWritten}
 use Rattle.write_others.specs.Exchange.{exchangeText}
 use Rattle.write_message.specs.Written.{handshakeText}
+use Rattle.content.specs.{TlsMessage, Handshake, ChangeCipherSpec, Alert, ApplicationData, Heartbeat}
+use Rattle.write_content.specs.ContentTexts.{cipherSpecText, alertText, contentText}
 use Rattle.record.specs.{TlsRecordHeader}
 use Rattle.write_record.specs.RecordTexts.{recordText}
 
@@ -121,6 +123,23 @@ bodyWrite s out (finishedBody v) = finishedWrite s v out
 unfoldable pub handshakeWrite : List ℕ → TlsMessageHandshake → List ℕ → Case
 handshakeWrite s m out = ifSome (bodyWritten m) (bodyWrite s out) (refusing NotYetImplemented)
 
+-- RULES 7.13, RFC 5246 7.1. ChangeCipherSpec: one byte
+abbrev pub cipherSpecWrite : List ℕ → Case
+cipherSpecWrite out = upTo 1 out
+
+-- RULES 7.14, RFC 5246 7.2. Alert: level 1, of value 1 or 2, and description 1
+abbrev pub alertWrite : ℕ → List ℕ → Case
+alertWrite severity out = whereFits (leb 1 severity && leb severity 2) 2 out
+
+-- RULES 7.15: a message by its kind; application data and heartbeats are NotYetImplemented,
+-- whatever the output
+abbrev pub contentWrite : List ℕ → TlsMessage → List ℕ → Case
+contentWrite s (Handshake m) out = handshakeWrite s m out
+contentWrite s ChangeCipherSpec out = cipherSpecWrite out
+contentWrite s (Alert a) out = alertWrite (a .severity) out
+contentWrite s (ApplicationData d) out = refusing NotYetImplemented
+contentWrite s (Heartbeat h) out = refusing NotYetImplemented
+
 -- RULES 7.10: TooLarge over 16,640 bytes. Type 1, version 2, length 2 and the lent bytes
 abbrev pub recordWrite : List ℕ → List ℕ → Case
 recordWrite p out = pick (leb (length p) 16640) (upTo (5 + length p) out) (refusing TooLarge)
@@ -175,6 +194,9 @@ pub record Writers (s out : List ℕ) : Type 0 where
   pub finished : (v : View) → Comes (messageText (headText 0x14) (viewText s v)) 0 out (finishedWrite s v out) (BadLength ∷ NoRoom ∷ [])
   pub helloRequest : Comes (messageText (headText 0x00) (accepted [])) 0 out (requestWrite out) (NoRoom ∷ [])
   pub handshake : (m : TlsMessageHandshake) → Comes (handshakeText s m) 0 out (handshakeWrite s m out) (NotYetImplemented ∷ BadLength ∷ NoRoom ∷ [])
+  pub cipherSpec : Comes cipherSpecText 0 out (cipherSpecWrite out) (NoRoom ∷ [])
+  pub alert : (severity code : ℕ) → Comes (alertText severity code) 0 out (alertWrite severity out) (BadLength ∷ NoRoom ∷ [])
+  pub content : (m : TlsMessage) → Comes (contentText s m) 0 out (contentWrite s m out) (NotYetImplemented ∷ BadLength ∷ NoRoom ∷ [])
   pub plaintext : (hdr : TlsRecordHeader) → Comes (recordText hdr s) 0 out (recordWrite s out) (TooLarge ∷ NoRoom ∷ [])
   -- what they are made of: a number and the lent bytes at a place, a part behind its length, type
   -- and length of a message of n bytes

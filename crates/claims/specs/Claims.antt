@@ -19,12 +19,17 @@ use Rattle.write_message.specs.Written.{handshakeText}
 use Rattle.open_hellos.specs.HelloMessages.{AsMessage}
 use Rattle.envelope.specs.{headSays, opened}
 use Rattle.record_walk.specs.Walking.{Walking}
+use Rattle.content.specs.{contentSays, alertSays, heartbeatSays}
+use Rattle.content_walk.specs.{foundSays, pastSays}
+use Rattle.content_walk.specs.ContentWalking.{ContentWalking}
 use Rattle.record.specs.{raw, headerSays, rawSays, encryptedSays}
 use Rattle.record_open.specs.{plaintextSays, openedSays}
+use Rattle.record_many.specs.{manySays, ManyRecords}
 use Rattle.record_joined.specs.Joined.{viewIn, NoRecordMore}
 use Rattle.norrabist_c.specs.HellosBack.{HellosBack}
 use Rattle.norrabist_c.specs.BodiesBack.{BodiesBack, ListsBack}
 use Rattle.norrabist_c.specs.HeadsBack.{HeadsBack}
+use Rattle.norrabist_c.specs.Contents.{ContentsBack}
 use Rattle.norrabist_c.specs.Slices.{SlicesSame}
 use Rattle.claim_rows.specs.Readings.{rows, ownRows, AllRead}
 use Rattle.claim_readers.specs.Readers.{Readers}
@@ -60,6 +65,12 @@ pub record Claims : Type 0 where
   pub oneEncrypted : OneResult encryptedSays
   pub onePlaintext : OneResult plaintextSays
   pub oneOpened : OneResult openedSays
+  pub oneContent : OneResult contentSays
+  pub oneAlert : OneResult alertSays
+  pub oneHeartbeat : OneResult heartbeatSays
+  pub oneFound : OneResult foundSays
+  pub onePast : OneResult pastSays
+  pub oneMany : OneResult manySays
   -- numbers and their bytes, of every width
   pub numbers : (w : ℕ) → EachUndoes w
   -- demand 3, its reading half, of the three hellos: by their grammars, a ServerHello by its
@@ -100,21 +111,24 @@ pub record Claims : Type 0 where
   pub splitsRetry : OfBytes (BySplit retry)
   pub splitsNextProtocol : OfBytes (BySplit nextProtocol)
   pub ticket : (n : ℕ) → OfBytes (OfTicket n)
-  -- records, joined ones, the walk over one, the reader that holds its list, and a part of a part
-  -- as a part of the whole
+  -- records, joined ones, the walk over one, the messages of a content of every type, joined ones
+  -- that are opened, the reader that holds its list, and a part of a part as a part of the whole
   pub splitsRecord : OfBytes (BySplit raw)
   pub noRecordMore : (s : List ℕ) → NoRecordMore s
   pub walks : (content : List ℕ) → Walking content
+  pub contents : (t : ℕ) (content : List ℕ) → ContentWalking t content
+  pub many : (s : List ℕ) → ManyRecords s
   pub readers : (l : RefT (List ℕ)) → SameItems l
   pub sameBytes : (s : List ℕ) (outer inner : View) → partOf s (viewIn s outer inner) ≡ partOf (partOf s outer) inner
   -- what reading finds of what was written
   pub wayBack : WayBack
-  -- what C and Rust are told is the whole value, each start a sum of lengths, and the slices that
-  -- they hand over have the message's own text
+  -- what C and Rust are told is the whole value, each start a sum of lengths; of the messages of a
+  -- content their number is enough; and the slices that they hand over have the message's own text
   pub hellosTold : OfBytes HellosBack
   pub bodiesTold : OfBytes BodiesBack
   pub listsTold : (s : List ℕ) → ListsBack s
   pub headsTold : OfBytes HeadsBack
+  pub contentsTold : (s : List ℕ) → ContentsBack s
   pub slicesSame : SlicesSame
   -- rules said a second time: the header and the record, types and kinds, which kinds are written,
   -- the rows of RULES 8 and our own

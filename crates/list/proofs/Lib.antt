@@ -1,4 +1,5 @@
 pub mod Walk
+pub mod Stopping
 pub mod Fields
 pub mod Fixed
 pub mod Listed

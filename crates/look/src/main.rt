@@ -3,8 +3,10 @@
 // and what it holds of a record that goes on is carried over into the next. Each place is counted
 // from the front of the input. A refusal is told by its name and number, and so is what is not
 // read. docs/LOOK.md has every line.
+mod alerts;
 mod bodies;
 mod ciphers;
+mod contents;
 mod hellos;
 mod hints;
 mod lists;
@@ -16,6 +18,7 @@ mod pages_00;
 mod pages_c0;
 mod records;
 mod say;
+mod sealed;
 mod sums;
 
 ghost use mathlib.Core.Path.{_≡_};
@@ -48,19 +51,22 @@ fn filled(window: &[u8; WINDOW], have: usize) -> &[u8]
     )
 }
 
-// The sums of the record `r`, which begins at `at` in the window `s`, and of which `passed` bytes
-// belong to a message begun before it.
-fn sums_of(r: TlsRawRecord, s: &[u8], at: usize, passed: usize) -> sums::Sums
-    ensures { λ x. ⌜ x ≡ recordSums (drop at (now (s .entry))) (partOf (now (s .entry)) (r .«data»)) passed ⌝ }
+// The sums of the record `r`, which begins at `at` in the window `s` and is sealed or not; `passed`
+// of its bytes belong to a message begun before it.
+fn sums_of(r: TlsRawRecord, s: &[u8], at: usize, sealed: bool, passed: usize) -> sums::Sums
+    ensures { λ x. ⌜ x ≡ recordSums (drop at (now (s .entry))) (partOf (now (s .entry)) (r .«data»)) sealed passed ⌝ }
 {
     let data = r.data;
+    if sealed {
+        return sums::sealed();
+    }
     let content = part_of(s, data);
     if passed != 0 {
         return sums::continued(rest_of(content, passed));
     }
     match record_open::parse_tls_plaintext(rest_of(s, at)) {
-        PlaintextAnswer::Refused(r) => sums::closed(r),
-        PlaintextAnswer::Got(p) => sums::opened(p, record_tally::count_hellos(content)),
+        PlaintextAnswer::Refused(_) => sums::refused(),
+        PlaintextAnswer::Got(p) => sums::opened(p, sums::hellos_in(p, content)),
     }
 }
 
@@ -88,13 +94,16 @@ fn main() {
     let mut place: usize = 0;
     let mut at: usize = 0;
     let mut owed: usize = 0;
+    let mut after = false;
     for turn in 0..u64::MAX {
         let s = filled(&window, have);
         if let RawRecordAnswer::Got(r) = record_joined::record_from(s, at) {
+            let sealed = sealed::is_sealed(r, after);
             let passed = owed::passed_over(r, owed);
-            records::say_record(r, rest_of(s, at), all.records, place, passed);
-            all = sums::both(all, sums_of(r, s, at, passed));
-            owed = owed::owed_after(r, owed, s);
+            records::say_record(r, rest_of(s, at), all.records, place, sealed, passed);
+            all = sums::both(all, sums_of(r, s, at, sealed, passed));
+            owed = owed::owed_after(r, owed, s, sealed);
+            after = sealed::sealed_after(r, rest_of(s, at), after);
             place = records::behind(r, place);
             at = r.next;
         } else {

@@ -1,13 +1,16 @@
-// The messages of a handshake record, whose content begins at `from` in the input.
+// The messages of a handshake record, whose content begins at `from` in the input, and what is
+// dropped behind the messages of any.
 use crate::bodies;
 use crate::names::say_handshake_type;
 use crate::names::say_reason;
 use crate::owed;
+use crate::say;
 use crate::say::amount;
 use crate::say::count;
 use crate::say::extent;
 use crate::say::number;
 use crate::say::text;
+use content_walk::PastAnswer;
 use envelope::HeadAnswer;
 use envelope::TlsMessageHead;
 use message::handshake::MessageAnswer;
@@ -101,11 +104,7 @@ fn say_opened(msg_type: u8, body: &[u8], from: usize) {
 // Tells the message that begins at `at` in the content.
 fn say_message(k: usize, at: usize, head: TlsMessageHead, content: &[u8], from: usize) {
     let body = head.body;
-    text(b"  message ");
-    number(k);
-    text(b" at ");
-    number(std::num::wrapping_add_usize(from, at));
-    text(b": ");
+    say::message(k, std::num::wrapping_add_usize(from, at));
     say_opened(
         head.msg_type,
         part_of(content, body),
@@ -113,10 +112,11 @@ fn say_message(k: usize, at: usize, head: TlsMessageHead, content: &[u8], from: 
     );
 }
 
-// The bytes behind the last message, with why they hold none; nothing where there are none.
-fn say_dropped(end: usize, content: &[u8], from: usize) {
+// The bytes behind the last message of a record of that type, with why they hold none; nothing
+// where there are none.
+pub(crate) fn say_dropped(record_type: u8, end: usize, content: &[u8], from: usize) {
     let message = rest_of(content, end);
-    let HeadAnswer::Refused(r) = record_walk::meet_tls_message(content, end) else {
+    let PastAnswer::Refused(r) = content_walk::past_message(record_type, content, end) else {
         return;
     };
     if message.len() == 0 {
@@ -126,7 +126,9 @@ fn say_dropped(end: usize, content: &[u8], from: usize) {
     extent(from, end, message.len());
     text(b", refused: ");
     say_reason(r);
-    say_refused(r, message);
+    if record_type == registry::record::HANDSHAKE {
+        say_refused(r, message);
+    }
 }
 
 // Tells as many messages as were counted, and the bytes behind them.
@@ -138,5 +140,5 @@ pub(crate) fn say_messages(all: usize, content: &[u8], from: usize) {
             at = head.next;
         }
     }
-    say_dropped(at, content, from);
+    say_dropped(registry::record::HANDSHAKE, at, content, from);
 }

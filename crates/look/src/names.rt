@@ -107,7 +107,6 @@ fn reason_name(r: Refusal) {
         Reason::TooLarge => text(b"TooLarge"),
         Reason::BadLength => text(b"BadLength"),
         Reason::NoRoom => text(b"NoRoom"),
-        Reason::Elsewhere => text(b"Elsewhere"),
         Reason::NoSuch => text(b"NoSuch"),
         Reason::NotYetImplemented => text(b"NotYetImplemented"),
     }

@@ -33,12 +33,15 @@ pub(crate) fn passed_over(r: TlsRawRecord, owed: usize) -> usize
 }
 
 // How many bytes of a message are owed after the record `r` of the window `s`, before which `owed`
-// were. A record of another type ends what was owed.
-pub(crate) fn owed_after(r: TlsRawRecord, owed: usize, s: &[u8]) -> usize
-    ensures { λ n. ⌜ n ≡ owedAfter (r .hdr .«record_type») owed (partOf (now (s .entry)) (r .«data»)) ⌝ }
+// were. A record of another type ends what was owed, and so does one that is sealed.
+pub(crate) fn owed_after(r: TlsRawRecord, owed: usize, s: &[u8], sealed: bool) -> usize
+    ensures { λ n. ⌜ n ≡ owedAfter sealed (r .hdr .«record_type») owed (partOf (now (s .entry)) (r .«data»)) ⌝ }
 {
     let hdr = r.hdr;
     let data = r.data;
+    if sealed {
+        return 0;
+    }
     if hdr.record_type != registry::record::HANDSHAKE {
         return 0;
     }

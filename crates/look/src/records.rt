@@ -1,6 +1,7 @@
 // The records of the input, one line for each, and what it holds.
 ghost use mathlib.Core.Path.{_≡_};
 ghost use Rattle.look.specs.Sums.{sum};
+use crate::contents;
 use crate::messages;
 use crate::names::say_reason;
 use crate::names::say_record_type;
@@ -29,14 +30,9 @@ fn say_header(h: TlsRecordHeader) {
     text(b"\n");
 }
 
-// A record that is whole and not opened: known and left to others, or refused, of a handshake
-// record for its first message.
-fn say_closed(r: Refusal, h: TlsRecordHeader, content: &[u8]) {
-    let reason = r.reason;
-    match reason {
-        Reason::Elsewhere => text(b"  not opened: "),
-        _ => text(b"  refused: "),
-    }
+// A record that is whole and refused, of a handshake record with what its first message is.
+fn say_refused(r: Refusal, h: TlsRecordHeader, content: &[u8]) {
+    text(b"  refused: ");
     say_reason(r);
     if h.record_type == registry::record::HANDSHAKE {
         messages::say_refused(r, content);
@@ -46,12 +42,12 @@ fn say_closed(r: Refusal, h: TlsRecordHeader, content: &[u8]) {
 // What a record holds, whose content begins at `from` in the input.
 fn say_answer(answer: PlaintextAnswer, h: TlsRecordHeader, content: &[u8], from: usize) {
     match answer {
-        PlaintextAnswer::Refused(r) => say_closed(r, h, content),
+        PlaintextAnswer::Refused(r) => say_refused(r, h, content),
         PlaintextAnswer::Got(p) => {
             text(b"  ");
             count(p.count, b" message");
             text(b"\n");
-            messages::say_messages(p.count, content, from);
+            contents::say_contents(h.record_type, p.count, content, from);
         }
     }
 }
@@ -96,8 +92,16 @@ fn say_content(h: TlsRecordHeader, record: &[u8], content: &[u8], from: usize, p
 }
 
 // Tells the whole record `r`, which begins at `place` in the input and is first of `record`; `k`
-// records stand before it, and `passed` of its bytes belong to a message begun in one of them.
-pub(crate) fn say_record(r: TlsRawRecord, record: &[u8], k: usize, place: usize, passed: usize) {
+// records stand before it, it is sealed or not, and `passed` of its bytes belong to a message begun
+// in one of them.
+pub(crate) fn say_record(
+    r: TlsRawRecord,
+    record: &[u8],
+    k: usize,
+    place: usize,
+    sealed: bool,
+    passed: usize,
+) {
     let hdr = r.hdr;
     text(b"record ");
     number(std::num::wrapping_add_usize(k, 1));
@@ -105,6 +109,10 @@ pub(crate) fn say_record(r: TlsRawRecord, record: &[u8], k: usize, place: usize,
     number(place);
     text(b": ");
     say_header(hdr);
+    if sealed {
+        text(b"  after ChangeCipherSpec: encrypted, not opened\n");
+        return;
+    }
     let content = View {
         start: 5,
         len: hdr.len as usize,

@@ -81,6 +81,15 @@ pub(crate) fn part(name: &[u8], from: usize, start: usize, len: usize) {
     extent(from, start, len);
 }
 
+// Begins the line of a message: its number in its record, and where it begins in the input.
+pub(crate) fn message(k: usize, place: usize) {
+    text(b"  message ");
+    number(k);
+    text(b" at ");
+    number(place);
+    text(b": ");
+}
+
 // Prints the kind of a message, behind its number and place, and where its body lies.
 pub(crate) fn kind(name: &[u8], from: usize, len: usize) {
     text(name);

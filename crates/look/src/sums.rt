@@ -1,20 +1,19 @@
 // What the summary tells: sums over the records.
 ghost use mathlib.Core.Path.{_≡_};
-ghost use Rattle.look.specs.Sums.{added, closedSums, continuedSums, noSums, openedSums};
+ghost use Rattle.look.specs.Sums.{added, continuedSums, hellosIn, noSums, openedSums, refusedSums, sealedSums};
 use crate::say::amount;
 use crate::say::count;
 use crate::say::text;
 use record_open::TlsPlaintext;
 use record_tally::HelloTally;
-use refusal::Refusal;
 
-// Of the records told: how many they are, are refused, are left to others and go on with a message
-// begun before them; their messages and dropped bytes; the hellos among the messages, and those
+// Of the records told: how many they are, are refused, are sealed and go on with a message begun
+// before them; their messages and dropped bytes; the hellos among the messages, and those
 // whose extensions may have been cut off.
 pub(crate) struct Sums {
     pub(crate) records: usize,
     pub(crate) refused: usize,
-    pub(crate) elsewhere: usize,
+    pub(crate) sealed: usize,
     pub(crate) continued: usize,
     pub(crate) messages: usize,
     pub(crate) dropped: usize,
@@ -30,10 +29,25 @@ pub(crate) fn none() -> Sums
     Sums {
         records: 0,
         refused: 0,
-        elsewhere: 0,
+        sealed: 0,
         continued: 0,
         messages: 0,
         dropped: 0,
+        clients: 0,
+        servers: 0,
+        cut: 0,
+    }
+}
+
+// The hellos in the content of the record `p`, which are those of a handshake record.
+pub(crate) fn hellos_in(p: TlsPlaintext, content: &[u8]) -> HelloTally
+    ensures { λ r. ⌜ r ≡ hellosIn (p .hdr .«record_type») (now (content .entry)) ⌝ }
+{
+    let hdr = p.hdr;
+    if hdr.record_type == registry::record::HANDSHAKE {
+        return record_tally::count_hellos(content);
+    }
+    HelloTally {
         clients: 0,
         servers: 0,
         cut: 0,
@@ -47,7 +61,7 @@ pub(crate) fn opened(p: TlsPlaintext, h: HelloTally) -> Sums
     Sums {
         records: 1,
         refused: 0,
-        elsewhere: 0,
+        sealed: 0,
         continued: 0,
         messages: p.count,
         dropped: p.dropped,
@@ -57,17 +71,23 @@ pub(crate) fn opened(p: TlsPlaintext, h: HelloTally) -> Sums
     }
 }
 
-// Those of one record that is not opened: known and left to others, or refused.
-pub(crate) fn closed(r: Refusal) -> Sums
-    ensures { λ x. ⌜ x ≡ closedSums r ⌝ }
+// Those of one record that is refused.
+pub(crate) fn refused() -> Sums
+    ensures { λ r. ⌜ r ≡ refusedSums ⌝ }
 {
     let mut s = none();
     s.records = 1;
-    if refusal::refusal_number(r) == 10 {
-        s.elsewhere = 1;
-        return s;
-    }
     s.refused = 1;
+    s
+}
+
+// Those of one record that is sealed, and so not opened.
+pub(crate) fn sealed() -> Sums
+    ensures { λ r. ⌜ r ≡ sealedSums ⌝ }
+{
+    let mut s = none();
+    s.records = 1;
+    s.sealed = 1;
     s
 }
 
@@ -81,7 +101,7 @@ pub(crate) fn continued(s: &[u8]) -> Sums
     Sums {
         records: 1,
         refused: 0,
-        elsewhere: 0,
+        sealed: 0,
         continued: 1,
         messages: all.count,
         dropped: wire::view::rest_of(s, all.end).len(),
@@ -98,7 +118,7 @@ pub(crate) fn both(a: Sums, b: Sums) -> Sums
     Sums {
         records: std::num::wrapping_add_usize(a.records, b.records),
         refused: std::num::wrapping_add_usize(a.refused, b.refused),
-        elsewhere: std::num::wrapping_add_usize(a.elsewhere, b.elsewhere),
+        sealed: std::num::wrapping_add_usize(a.sealed, b.sealed),
         continued: std::num::wrapping_add_usize(a.continued, b.continued),
         messages: std::num::wrapping_add_usize(a.messages, b.messages),
         dropped: std::num::wrapping_add_usize(a.dropped, b.dropped),
@@ -125,7 +145,7 @@ fn say_hellos(s: Sums) {
 // What was not opened, refused or dropped, and how many bytes no record holds.
 fn say_rest(s: Sums, left: usize) {
     text(b"  ");
-    count(s.elsewhere, b" record");
+    count(s.sealed, b" record");
     text(b" not opened, ");
     amount(s.refused);
     text(b" refused, ");

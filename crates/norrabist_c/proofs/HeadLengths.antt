@@ -3,6 +3,7 @@ use Prim.Native.Nat.{ℕ, _+_, _<_, _≤_}
 use mathlib.Core.Path.{_≡_, refl, sym, ap, _∙_}
 use mathlib.Core.Bool.{Bool, true, false}
 use mathlib.Core.List.{List}
+use mathlib.Core.Logic.{_⊎_, inl, inr}
 use native.Mathlib.Omega.{arith}
 use lib.ListN.{length}
 use Rattle.refusal.specs.Answers.{accepted, refused, then, giving}
@@ -21,7 +22,8 @@ use Rattle.record.specs.Records.{raw}
 use Rattle.record.specs.declared.TlsRawRecord.{TlsRawRecord}
 use Rattle.record.proofs.Whole.{all-records}
 use Rattle.envelope.specs.declared.TlsMessageHead.{TlsMessageHead}
-use Rattle.norrabist_c.specs.Heads.{isListed, listedHead}
+use Rattle.norrabist_c.specs.Heads.{contentHead, isListed, listedHead, noHead}
+use Rattle.norrabist_c.proofs.ContentHeads.{told-head}
 
 head-len : (s : List ℕ) (at : ℕ) {h : TlsMessageHead} → Bytes s → headAt s at ≡ accepted h → h .body .len < 16777216
 unfolding headAt
@@ -54,10 +56,24 @@ pub listed-len : (s : List ℕ) (at : ℕ) {h : TlsMessageHead} → Bytes s → 
     → h .body .len < 16777216
 listed-len s at b e = head-len s at b (listed-head s at e)
 
+-- and so has that of the first message of a content
+pub first-len : (t at : ℕ) (s : List ℕ) {h : TlsMessageHead} → Bytes s → contentHead t at s ≡ accepted h
+    → h .body .len < 16777216
+first-len t at s {h} b e = go (told-head t at s e)
+  where
+    go : (listedHead s 0 ≡ accepted h) ⊎ (noHead ≡ h) → h .body .len < 16777216
+    go (inl q) = listed-len s 0 b q
+    go (inr d) = rw (← d) (omega arith)
+
 -- a record's content has at most two bytes' worth, and so has the body of a message in it
 pub content-len : (s : List ℕ) {r : TlsRawRecord} {h : TlsMessageHead} → Bytes s → reading raw s ≡ accepted r
-    → listedHead (partOf s (r .«data»)) 0 ≡ accepted h → h .body .len < 65536
-content-len s {r} b e p =
-    let o = all-records s b .splits r e .obey in
-    let l = head-lies (partOf s (r .«data»)) 0 (listed-head (partOf s (r .«data»)) 0 p) in
-    omega (arith, o .1 .1 .0 .0, l .next, l .inside)
+    → contentHead (r .hdr .«record_type») (r .«data» .start) (partOf s (r .«data»)) ≡ accepted h → h .body .len < 65536
+content-len s {r} {h} b e p =
+    go (told-head (r .hdr .«record_type») (r .«data» .start) (partOf s (r .«data»)) p)
+  where
+    go : (listedHead (partOf s (r .«data»)) 0 ≡ accepted h) ⊎ (noHead ≡ h) → h .body .len < 65536
+    go (inl q) =
+        let o = all-records s b .splits r e .obey in
+        let l = head-lies (partOf s (r .«data»)) 0 (listed-head (partOf s (r .«data»)) 0 q) in
+        omega (arith, o .1 .1 .0 .0, l .next, l .inside)
+    go (inr d) = rw (← d) (omega arith)

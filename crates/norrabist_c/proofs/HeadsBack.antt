@@ -5,12 +5,13 @@ use mathlib.Core.Bool.{Bool, true, false}
 use mathlib.Core.List.{List}
 use mathlib.Core.Option.{Option, none}
 use native.Mathlib.Omega.{arith}
+use borrow.Author.Tests.{eq-eqb, eqb-true}
 use lib.Dec.{eqb}
 use lib.ListN.{length, length-append}
 use Rattle.refusal.specs.Answers.{Answer, accepted, refused, then, giving}
 use Rattle.refusal.specs.Refusals.{refusal}
 use Rattle.refusal.specs.declared.Reason.the-variants.{Switch}
-use Rattle.refusal.proofs.Then.{not-both, then-accepted}
+use Rattle.refusal.proofs.Then.{then-accepted}
 use Rattle.wire.specs.Numbers.{Bytes}
 use Rattle.wire.specs.Parts.{lookup, partOf, pick}
 use Rattle.wire.proofs.Numbers.{length-bytes}
@@ -22,13 +23,20 @@ use Rattle.message.specs.declared.handshake.TlsMessageHandshake.{TlsMessageHand
 use Rattle.envelope.specs.Opening.{Met, byTypeIn, headAt, metAt, openings}
 use Rattle.envelope.specs.declared.TlsMessageHead.{TlsMessageHead}
 use Rattle.envelope.proofs.Heads.{head-lies}
+use Rattle.content.specs.declared.TlsMessage.the-variants.{Handshake}
+use Rattle.content_walk.specs.declared.TlsFound.{TlsFound}
 use Rattle.record.specs.Records.{raw}
 use Rattle.record.specs.declared.TlsRawRecord.{TlsRawRecord}
+use Rattle.record.specs.declared.TlsRecordHeader.{TlsRecordHeader}
 use Rattle.record.proofs.Whole.{all-records}
-use Rattle.record_open.specs.Plaintext.{asFirst, handshakes, openedFirst, otherType, plainRecord}
+use Rattle.record_open.specs.Plaintext.{asFirst, contents, firstOf, openedFirst, plainRecord, withHeader}
 use Rattle.record_open.specs.declared.TlsPlaintextOpened.{TlsPlaintextOpened}
-use Rattle.norrabist_c.specs.Heads.{PlainHead, headTold, isListed, listedHead, plainHead, rawTold}
-use Rattle.norrabist_c.specs.HeadsBack.{HeadsBack, headFrom, rawFrom}
+use Rattle.norrabist_c.specs.Contents.{asFound}
+use Rattle.norrabist_c.specs.Heads.{PlainHead, contentHead, headTold, isListed, listedHead, noHead, plainHead}
+use Rattle.norrabist_c.specs.Heads.{rawTold}
+use Rattle.norrabist_c.specs.HeadsBack.{HeadsBack, headFrom, openedFrom, rawFrom}
+use Rattle.norrabist_c.proofs.ContentHeads.{first-16, first-accepted, first-place, head-16, head-other}
+use Rattle.norrabist_c.proofs.ContentHeads.{other-message}
 use Rattle.norrabist_c.proofs.HeadLengths.{listed-head}
 use Rattle.norrabist_c.proofs.HellosBack.{of-pieces, same-view}
 
@@ -83,67 +91,97 @@ module _ (s : List ℕ) (at : ℕ) where
           one true q = rw q
           one false q = rw (q, switched at (h .body .start) (h .«msg_type») (partOf s (h .body)) q)
 
--- the first message of a record's content, from its head
-abbrev withFirst : TlsRawRecord → List ℕ → Met → TlsPlaintextOpened
-withFirst r content x = record { «record» = plainRecord r content; head = x .head; message = x .says }
+-- the record with its content, and the first message
+abbrev withFirst : TlsRawRecord → List ℕ → TlsFound → TlsPlaintextOpened
+withFirst r content y = record { «record» = plainRecord r content; body = y .body; message = y .message }
 
-abbrev firstOf : List ℕ → PlainHead → Answer TlsPlaintextOpened
-firstOf s x =
-    giving (λ m. record {
-      «record» = plainRecord (x .outer) (partOf s (x .outer .«data»));
-      head = x .head;
-      message =
-          m;
-    })
-    (asFirst (x .outer .«data» .start)
-    (byTypeIn 0 (x .head .body .start) (x .head .«msg_type») (partOf (partOf s (x .outer .«data»)) (x .head .body))))
-
-module _ (s : List ℕ) (r : TlsRawRecord) where
-  abbrev inside : List ℕ
-  inside = partOf s (r .«data»)
-
+module _ (r : TlsRawRecord) (content : List ℕ) where
   abbrev begins : ℕ
   begins = r .«data» .start
 
+  abbrev from : TlsMessageHead → Answer TlsPlaintextOpened
+  from h = openedFrom content (record { outer = r; head = h })
+
+  -- of a handshake record, from its head
   of-body : (h : TlsMessageHead) (a : Answer TlsMessageHandshake)
-      → giving (withFirst r inside) (asFirst begins (giving (λ m. record { head = h; says = m }) a))
-      ≡ giving (λ m. record { «record» = plainRecord r inside; head = h; message = m }) (asFirst begins a)
+      → asFirst begins (giving asFound (giving (λ m. record { head = h; says = m }) a))
+      ≡ giving (λ m. record { body = h .body; next = h .next; message = Handshake m }) (asFirst begins a)
   of-body h (accepted m) = refl
   of-body h (refused x) = refl
 
-  of-head : (a : Answer TlsMessageHead) → giving (withFirst r inside) (asFirst begins (then a (bodyOf inside 0)))
-      ≡ then (giving (λ h. record { outer = r; head = h }) (asFirst begins a)) (firstOf s)
-  of-head (refused x) = refl
-  of-head (accepted h) = of-body h (byTypeIn 0 (h .body .start) (h .«msg_type») (partOf inside (h .body)))
+  of-head : eqb (r .hdr .«record_type») 0x16 ≡ true → (a : Answer TlsMessageHead)
+      → giving (withFirst r content) (asFirst begins (giving asFound (then a (bodyOf content 0))))
+      ≡ then (asFirst begins a) from
+  of-head q (refused x) = refl
+  of-head q (accepted h) =
+      rw (q, of-body h (byTypeIn 0 (h .body .start) (h .«msg_type») (partOf content (h .body))))
 
-  of-content : handshakes r inside
-      ≡ then (giving (λ h. record { outer = r; head = h }) (asFirst begins (listedHead inside 0))) (firstOf s)
-  unfolding handshakes
-  of-content = rw (by-head inside 0) (of-head (listedHead inside 0))
+  -- of any other, from the first of its messages
+  of-other : eqb (r .hdr .«record_type») 0x16 ≡ false → (a : Answer TlsFound)
+      → firstOf (r .hdr .«record_type») begins content ≡ a
+      → giving (withFirst r content) a ≡ then (giving (λ x. noHead) a) from
+  of-other q (refused x) e = refl
+  of-other q (accepted y) e = rw (q, first-place (r .hdr .«record_type») begins content e)
 
-by-first : (s : List ℕ) → openedFirst s ≡ then (plainHead s) (firstOf s)
+  by-content : contents r content ≡ then (contentHead (r .hdr .«record_type») begins content) from
+  unfolding contents
+  by-content = go (eqb (r .hdr .«record_type») 0x16) refl
+    where
+      go : (y : Bool) → eqb (r .hdr .«record_type») 0x16 ≡ y
+          → giving (withFirst r content) (firstOf (r .hdr .«record_type») begins content)
+          ≡ then (contentHead (r .hdr .«record_type») begins content) from
+      go true q =
+          ap (λ (t : ℕ). giving (withFirst r content) (firstOf t begins content))
+          (eqb-true (r .hdr .«record_type») 0x16 q)
+          ∙ ap (λ (a : Answer TlsFound). giving (withFirst r content) a) (first-16 begins content)
+          ∙ ap (λ (a : Answer Met). giving (withFirst r content) (asFirst begins (giving asFound a)))
+          (by-head content 0)
+          ∙ of-head q (listedHead content 0)
+          ∙ ap (λ (a : Answer TlsMessageHead). then a from)
+          (sym (head-16 (r .hdr .«record_type») begins content q))
+      go false q =
+          of-other q (firstOf (r .hdr .«record_type») begins content) refl
+          ∙ ap (λ (a : Answer TlsMessageHead). then a from)
+          (sym (head-other (r .hdr .«record_type») begins content q))
+
+by-first : (s : List ℕ) → openedFirst s ≡ then (plainHead s) (λ x. openedFrom (partOf s (x .outer .«data»)) x)
 unfolding openedFirst plainHead
 by-first s = go (reading raw s)
   where
-    go : (a : Answer TlsRawRecord) → then a
-        (λ r. pick (eqb (r .hdr .«record_type») 0x16) (handshakes r (partOf s (r .«data»)))
-        (refused (otherType (r .hdr .«record_type»))))
-        ≡ then (then a (λ r. pick (eqb (r .hdr .«record_type») 0x16)
-        (giving (λ h. record { outer = r; head = h })
-        (asFirst (r .«data» .start) (listedHead (partOf s (r .«data»)) 0)))
-        (refused (otherType (r .hdr .«record_type»))))) (firstOf s)
+    go : (a : Answer TlsRawRecord) → then a (λ r. contents r (partOf s (r .«data»)))
+        ≡ then (then a (λ r. giving (λ h. record { outer = r; head = h })
+        (contentHead (r .hdr .«record_type») (r .«data» .start) (partOf s (r .«data»)))))
+        (λ x. openedFrom (partOf s (x .outer .«data»)) x)
     go (refused x) = refl
-    go (accepted r) = one (eqb (r .hdr .«record_type») 0x16) refl
+    go (accepted r) =
+        by-content r (partOf s (r .«data»))
+        ∙ on (contentHead (r .hdr .«record_type») (r .«data» .start) (partOf s (r .«data»)))
       where
-        one : (y : Bool) → eqb (r .hdr .«record_type») 0x16 ≡ y
-            → pick (eqb (r .hdr .«record_type») 0x16) (handshakes r (partOf s (r .«data»)))
-            (refused (otherType (r .hdr .«record_type»)))
-            ≡ then (pick (eqb (r .hdr .«record_type») 0x16)
-            (giving (λ h. record { outer = r; head = h })
-            (asFirst (r .«data» .start) (listedHead (partOf s (r .«data»)) 0)))
-            (refused (otherType (r .hdr .«record_type»)))) (firstOf s)
-        one true q = rw q (of-content s r)
-        one false q = rw q
+        on : (a : Answer TlsMessageHead) → then a (from r (partOf s (r .«data»)))
+            ≡ then (giving (λ h. record { outer = r; head = h }) a) (λ x. openedFrom (partOf s (x .outer .«data»)) x)
+        on (refused x) = refl
+        on (accepted h) = refl
+
+by-header : (s : List ℕ) (hdr : TlsRecordHeader) → withHeader hdr s
+    ≡ then (contentHead (hdr .«record_type») 0 s)
+    (from (record { hdr = hdr; «data» = record { start = 0; len = length s }; next = length s }) s)
+unfolding withHeader
+by-header s hdr = by-content (record { hdr = hdr; «data» = record { start = 0; len = length s }; next = length s }) s
+
+-- a head that is told is that of a record that was taken
+taken : (s : List ℕ) (x : PlainHead) → plainHead s ≡ accepted x → (reading raw s ≡ accepted (x .outer))
+    × (contentHead (x .outer .hdr .«record_type») (x .outer .«data» .start) (partOf s (x .outer .«data»))
+    ≡ accepted (x .head))
+unfolding plainHead
+taken s x e =
+    let t = then-accepted (reading raw s)
+    (λ r. giving (λ h. record { outer = r; head = h })
+    (contentHead (r .hdr .«record_type») (r .«data» .start) (partOf s (r .«data»)))) e in
+    let u = then-accepted
+    (contentHead (t .0 .hdr .«record_type») (t .0 .«data» .start) (partOf s (t .0 .«data»)))
+    (λ h. accepted (record { outer = t .0; head = h })) (t .2) in
+    let d : record { outer = t .0; head = u .0 } ≡ x = cc (u .2) in
+    rw (← d) (t .1, u .1)
 
 -- a record's content stands behind the header
 abbrev rawMade : ℕ → ℕ → ℕ → View → ℕ → TlsRawRecord
@@ -176,35 +214,17 @@ module _ (s : List ℕ) (b : Bytes s) where
           (record { «msg_type» = t; body = v; next = n }) (record { «msg_type» = t; body = w; next = n })
       same-head t n p = rw p
 
-  first-back : (x : PlainHead) → plainHead s ≡ accepted x
+  first-back : (x : PlainHead) → plainHead s ≡ accepted x → x .outer .hdr .«record_type» ≡ 0x16
       → (x .outer .«data» .start ≡ 5) × (x .head .body .start ≡ 4) × (x .head .next ≡ 4 + x .head .body .len)
-  unfolding plainHead
-  first-back x e =
-      let t = then-accepted (reading raw s)
-      (λ r. pick (eqb (r .hdr .«record_type») 0x16)
-      (giving (λ h. record { outer = r; head = h })
-      (asFirst (r .«data» .start) (listedHead (partOf s (r .«data»)) 0)))
-      (refused (otherType (r .hdr .«record_type»)))) e in
-      go (eqb (t .0 .hdr .«record_type») 0x16) refl (t .1) (t .2)
-    where
-      of-first : {r : TlsRawRecord} (a : Answer TlsMessageHead) → listedHead (partOf s (r .«data»)) 0 ≡ a
-          → reading raw s ≡ accepted r
-          → giving (λ h. record { outer = r; head = h }) (asFirst (r .«data» .start) a) ≡ accepted x
-          → (x .outer .«data» .start ≡ 5) × (x .head .body .start ≡ 4) × (x .head .next ≡ 4 + x .head .body .len)
-      of-first {r} (refused n) q f p = absurd (not-both refl (sym p))
-      of-first {r} (accepted h) q f p =
-          let l = head-lies (partOf s (r .«data»)) 0 (listed-head (partOf s (r .«data»)) 0 q) in
-          let d : record { outer = r; head = h } ≡ x = cc (p) in
-          rw (← d) (ap (λ (y : TlsRawRecord). y .«data» .start) (raw-back r f), l .start, l .next)
-
-      go : {r : TlsRawRecord} (y : Bool) → eqb (r .hdr .«record_type») 0x16 ≡ y → reading raw s ≡ accepted r
-          → pick (eqb (r .hdr .«record_type») 0x16)
-          (giving (λ h. record { outer = r; head = h })
-          (asFirst (r .«data» .start) (listedHead (partOf s (r .«data»)) 0)))
-          (refused (otherType (r .hdr .«record_type»))) ≡ accepted x
-          → (x .outer .«data» .start ≡ 5) × (x .head .body .start ≡ 4) × (x .head .next ≡ 4 + x .head .body .len)
-      go {r} true q f p = of-first (listedHead (partOf s (r .«data»)) 0) refl f (rw q at p)
-      go {r} false q f p = absurd (not-both refl (sym (rw q at p)))
+  first-back x e z =
+      let t = taken s x e in
+      let content = partOf s (x .outer .«data») in
+      let begins = x .outer .«data» .start in
+      let q = first-accepted begins (listedHead content 0)
+      (sym (head-16 (x .outer .hdr .«record_type») begins content (eq-eqb (x .outer .hdr .«record_type») 0x16 z))
+      ∙ t .1) in
+      let l = head-lies content 0 (listed-head content 0 q) in
+      (ap (λ (y : TlsRawRecord). y .«data» .start) (raw-back (x .outer) (t .0)), l .start, l .next)
 
 pub heads-back : (s : List ℕ) → Bytes s → HeadsBack s
 heads-back s b =
@@ -215,4 +235,8 @@ heads-back s b =
       met =
           λ at. by-head s at;
       opened = by-first s;
+      others = λ x e out. other-message (x .outer .hdr .«record_type») (x .outer .«data» .start)
+          (partOf s (x .outer .«data»)) (taken s x e .1) out;
+      content = by-header s;
+      contentOthers = λ t at h e out. other-message t at s e out;
     }

@@ -1,8 +1,10 @@
 pub mod HelloLengths
 pub mod ServerVersions
 pub mod HellosBack
+pub mod ContentHeads
 pub mod HeadLengths
 pub mod HeadsBack
+pub mod ContentsBack
 pub mod BodyParts
 pub mod BodiesBack
 pub mod Verdicts

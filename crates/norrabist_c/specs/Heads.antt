@@ -8,9 +8,12 @@ use Rattle.grammar.specs.{reading}
 use Rattle.envelope.specs.{Met, headAt, TlsMessageHead}
 use Rattle.envelope.specs.Opening.{openings}
 use Rattle.record.specs.{raw, TlsRawRecord, TlsRecordHeader}
-use Rattle.record_open.specs.Plaintext.{asFirst, otherType}
+use Rattle.list.specs.{endOf}
+use Rattle.content_walk.specs.{TlsFound}
+use Rattle.record_open.specs.{asFirst, firstOf}
+use Rattle.record_many.specs.{TlsRecords}
 use Rattle.record_walk.specs.Walks.{pastAll}
-use Rattle.norrabist_c.specs.declared.{messages.MessageHeadTold.MessageHeadTold, messages.TallyTold.TallyTold, records.RecordHeadTold.RecordHeadTold, records.PlaintextHeadTold.PlaintextHeadTold}
+use Rattle.norrabist_c.specs.declared.{messages.MessageHeadTold.MessageHeadTold, messages.TallyTold.TallyTold, records.RecordHeadTold.RecordHeadTold, records.PlaintextHeadTold.PlaintextHeadTold, records.ContentHeadTold.ContentHeadTold, records.RecordsTold.RecordsTold}
 
 -- RULES 5.4, 5.5: a type of which a body is opened
 unfoldable pub isListed : ℕ → Bool
@@ -35,19 +38,25 @@ headerTold (refused r) = record { version = 0; len = 0; «record_type» = 0; num
 abbrev pub rawTold : Answer TlsRawRecord → RecordHeadTold
 rawTold a = headerTold (giving (λ x. x .hdr) a)
 
--- a handshake record whose first message's head is read, its body not yet
+-- a record whose first message can be opened; of a handshake record only the head of that is read
 pub record PlainHead : Type 0 where
   pub outer : TlsRawRecord
   pub head : TlsMessageHead
 
--- RULES 6.2, 6.4, 6.5, 6.9: the record, its type at last, and the head of its first message, with
--- Complete for Incomplete
+-- the head of what is not a handshake message
+abbrev pub noHead : TlsMessageHead
+noHead = record { «msg_type» = 0; body = record { start = 0; len = 0 }; next = 0 }
+
+-- RULES 6.4, 6.5, 6.9: the first message of a record of type t whose content begins at a place, up
+-- to the body of a handshake message
+unfoldable pub contentHead : ℕ → ℕ → List ℕ → Answer TlsMessageHead
+contentHead t at content = pick (eqb t handshakeRecord) (asFirst at (listedHead content 0)) (giving (λ x. noHead) (firstOf t at content))
+
+-- RULES 6.2: the record, its type at last, and its first message
 unfoldable pub plainHead : List ℕ → Answer PlainHead
 plainHead s =
     then (reading raw s) (λ r.
-    pick (eqb (r .hdr .«record_type») handshakeRecord)
-    (giving (λ h. record { outer = r; head = h }) (asFirst (r .«data» .start) (listedHead (partOf s (r .«data»)) 0)))
-    (refused (otherType (r .hdr .«record_type»))))
+    giving (λ h. record { outer = r; head = h }) (contentHead (r .hdr .«record_type») (r .«data» .start) (partOf s (r .«data»))))
 
 abbrev pub plaintextTold : Answer PlainHead → PlaintextHeadTold
 plaintextTold (accepted x) =
@@ -55,7 +64,21 @@ plaintextTold (accepted x) =
       version = x .outer .hdr .version;
       len = x .outer .hdr .len;
       body = x .head .body .len;
+      «record_type» = x .outer .hdr .«record_type»;
       «msg_type» = x .head .«msg_type»;
       number = 0;
     }
-plaintextTold (refused r) = record { version = 0; len = 0; body = 0; «msg_type» = 0; number = numberOf (r .reason) }
+plaintextTold (refused r) = record { version = 0; len = 0; body = 0; «record_type» = 0; «msg_type» = 0; number = numberOf (r .reason) }
+
+abbrev pub contentTold : Answer TlsMessageHead → ContentHeadTold
+contentTold (accepted h) = record { body = h .body .len; «msg_type» = h .«msg_type»; number = 0 }
+contentTold (refused r) = record { body = 0; «msg_type» = 0; number = numberOf (r .reason) }
+
+-- messages of a record of any type: how many, and where the last one ends
+abbrev pub contentsTold : List TlsFound → TallyTold
+contentsTold xs = record { count = length xs; end = endOf (λ x. x .next) xs 0 }
+
+-- RULES 6.20: joined records; a count of 0 is a refusal
+abbrev pub manyTold : Answer TlsRecords → RecordsTold
+manyTold (accepted x) = record { count = x .count; end = x .end }
+manyTold (refused r) = record { count = 0; end = 0 }

@@ -6,6 +6,7 @@ pub mod Lists
 pub mod BodiesBack
 pub mod Heads
 pub mod HeadsBack
+pub mod Contents
 pub mod Readers
 pub mod Writers
 pub mod Slices

@@ -1,7 +1,8 @@
 // Messages: their heads, and how many there are.
 ghost use mathlib.Core.Path.{_≡_};
 ghost use Rattle.envelope.specs.Opening.{headSays};
-ghost use Rattle.norrabist_c.specs.Heads.{headTold, isListed, listedHead, tallyTold};
+ghost use Rattle.content_walk.specs.ContentWalks.{messagesOf};
+ghost use Rattle.norrabist_c.specs.Heads.{contentsTold, headTold, isListed, listedHead, tallyTold};
 ghost use Rattle.record_walk.specs.Walks.{messagesFrom};
 use envelope::HeadAnswer;
 use refusal::Reason;
@@ -96,5 +97,18 @@ pub extern "C" fn norrabist_count_messages(s: &[u8], from: usize) -> TallyTold
     TallyTold {
         count: t.count,
         end: t.end,
+    }
+}
+
+// Counts the messages of a record's content by the type of the record, up to the first that is
+// refused; of application data and a heartbeat there is one at most.
+#[no_mangle]
+pub extern "C" fn norrabist_count_contents(record_type: u8, s: &[u8]) -> TallyTold
+    ensures { λ r. ⌜ r ≡ contentsTold (messagesOf «record_type» (now (s .entry))) ⌝ }
+{
+    let all = content_walk::count_contents(record_type, s);
+    TallyTold {
+        count: all.count,
+        end: all.end,
     }
 }

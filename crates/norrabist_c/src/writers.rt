@@ -6,6 +6,7 @@ ghost use Rattle.norrabist_c.specs.Writers.{exchangeSliceText, finishedT
 ghost use Rattle.refusal.specs.Answers.{numberIn};
 ghost use Rattle.wire.specs.Puts.{written, writeSays};
 ghost use Rattle.write_client.specs.Slices.{clientText};
+ghost use Rattle.write_content.specs.ContentTexts.{alertText, cipherSpecText};
 ghost use Rattle.write_draft18.specs.Slices.{draft18Text};
 ghost use Rattle.write_record.specs.RecordTexts.{recordText};
 ghost use Rattle.write_server.specs.Slices.{serverText};
@@ -37,6 +38,25 @@ fn told(text: TextAnswer) -> Wrote
             number: 0,
         },
     }
+}
+
+// Writes a ChangeCipherSpec, the byte 01: NoRoom.
+#[no_mangle]
+pub extern "C" fn norrabist_gen_tls_changecipherspec(out: &mut [u8]) -> Wrote
+    ensures { λ r. ⌜ r ≡ wroteTold cipherSpecText (now (out .entry)) ⌝ }
+    ensures { λ _. ⌜ now (out .exit) ≡ written cipherSpecText 0 (now (out .entry)) ⌝ }
+{
+    told(write_content::gen_changecipherspec(out))
+}
+
+// Writes an alert, level and description: BadLength where the level is neither 1 nor 2, then
+// NoRoom.
+#[no_mangle]
+pub extern "C" fn norrabist_gen_tls_alert(severity: u8, code: u8, out: &mut [u8]) -> Wrote
+    ensures { λ r. ⌜ r ≡ wroteTold (alertText severity code) (now (out .entry)) ⌝ }
+    ensures { λ _. ⌜ now (out .exit) ≡ written (alertText severity code) 0 (now (out .entry)) ⌝ }
+{
+    told(write_content::gen_alert(severity, code, out))
 }
 
 // Writes a ClientHello as a message: BadLength, then NoRoom.

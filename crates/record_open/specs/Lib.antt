@@ -1,2 +1,3 @@
 pub mod Plaintext
-pub use Plaintext.{openedFirst, plaintext, plaintextSays, openedSays}
+pub use Plaintext.{asFirst, firstOf, openedFirst, plaintext, withHeader, recordMet, plaintextSays, openedSays}
+pub use declared.{TlsPlaintext.TlsPlaintext}

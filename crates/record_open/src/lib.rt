@@ -1,12 +1,12 @@
 // The plaintext record: opened by its type (RFC 5246 6.2.1).
 ghost use mathlib.Core.Path.{_≡_};
-ghost use Rattle.refusal.specs.Answers.{accepted, then};
-ghost use Rattle.envelope.specs.Opening.{metAt};
-ghost use Rattle.record_open.specs.Plaintext.{firstRefusal, handshakes, openedFirst, openedSays, otherType, plainRecord, plaintext, plaintextSays};
-use envelope::HeadAnswer;
-use envelope::TlsMessageHead;
-use message::handshake::MessageAnswer;
-use message::handshake::TlsMessageHandshake;
+ghost use Rattle.refusal.specs.Answers.{accepted, giving};
+ghost use Rattle.content_walk.specs.ContentWalks.{foundAt, pastSays};
+ghost use Rattle.record.specs.Records.{rawSays};
+ghost use Rattle.record_open.specs.Plaintext.{contents, firstOf, firstRefusal, isOpened, ofContent, openedFirst, openedSays, plainRecord, plaintext, plaintextSays, recordMet, withHeader};
+use content::TlsMessage;
+use content_walk::FoundAnswer;
+use content_walk::PastAnswer;
 use record::RawRecordAnswer;
 use record::TlsRawRecord;
 use record::TlsRecordHeader;
@@ -25,20 +25,21 @@ pub struct TlsPlaintext {
     pub next: usize,
 }
 
-// Holds a handshake record with its counts, or the refusal.
+// Holds a record with its counts, or the refusal.
 pub enum PlaintextAnswer {
     Refused(Refusal),
     Got(TlsPlaintext),
 }
 
-// A record, and its first message, opened; the message's views are of its body, which `head` tells.
+// A record, and its first message, opened; the message's views are of `body`, which is a view of
+// the record's content.
 pub struct TlsPlaintextOpened {
     pub record: TlsPlaintext,
-    pub head: TlsMessageHead,
-    pub message: TlsMessageHandshake,
+    pub body: View,
+    pub message: TlsMessage,
 }
 
-// Holds a handshake record with its first message, or the refusal.
+// Holds a record with its first message, or the refusal.
 pub enum OpenedAnswer {
     Refused(Refusal),
     Got(TlsPlaintextOpened),
@@ -55,29 +56,35 @@ pub fn first_refusal(r: Refusal, at: usize) -> Refusal
     refusal::inside(r, at)
 }
 
-// Why a record of a type other than 0x16 is refused.
-pub fn other_type(record_type: u8) -> Refusal
-    ensures { λ r. ⌜ r ≡ otherType «record_type» ⌝ }
+// The same by the type of the record: where the content is one message, its refusal stays.
+pub fn content_refusal(record_type: u8, r: Refusal, at: usize) -> Refusal
+    ensures { λ x. ⌜ x ≡ ofContent «record_type» at r ⌝ }
+{
+    if content_walk::is_single(record_type) {
+        return refusal::inside(r, at);
+    }
+    first_refusal(r, at)
+}
+
+// Whether a record of that type is opened.
+pub fn is_opened(record_type: u8) -> bool
+    ensures { λ r. ⌜ r ≡ isOpened «record_type» ⌝ }
 {
     match record_type {
-        registry::record::CHANGE_CIPHER_SPEC..=registry::record::HEARTBEAT => refusal::refuse(
-            Reason::Elsewhere,
-            0,
-            0,
-        ),
-        0x00..=0x13 | 0x19..=0xff => refusal::refuse(Reason::Switch, 0, 0),
+        registry::record::CHANGE_CIPHER_SPEC..=registry::record::HEARTBEAT => true,
+        0x00..=0x13 | 0x19..=0xff => false,
     }
 }
 
-// The record with its content, whose first message is met and ends at `next`: the others are
+// The record with its content, whose first message is found and ends at `next`: the others are
 // counted.
 fn count_others(outer: TlsRawRecord, content: &[u8], next: usize) -> TlsPlaintext
-    requires { ⌜ then (metAt (now content) 0) (λ x. accepted (x .head .next)) ≡ accepted next ⌝ }
+    requires { ⌜ giving (λ x. x .next) (foundAt (outer .hdr .«record_type») (now content) 0) ≡ accepted next ⌝ }
     ensures { λ r. ⌜ r ≡ plainRecord outer (now (content .entry)) ⌝ }
 {
     let hdr = outer.hdr;
     let msg = outer.data;
-    let others = record_walk::count_messages(content, next);
+    let others = content_walk::count_behind(hdr.record_type, content, next);
     TlsPlaintext {
         hdr,
         msg,
@@ -87,27 +94,26 @@ fn count_others(outer: TlsRawRecord, content: &[u8], next: usize) -> TlsPlaintex
     }
 }
 
-// The record opened as handshake messages, with its content, and the first of them.
+// The record with its content, opened by its type, and its first message.
 fn open_first(outer: TlsRawRecord, content: &[u8]) -> OpenedAnswer
-    ensures { λ r. ⌜ openedSays r ≡ handshakes outer (now (content .entry)) ⌝ }
+    ensures { λ r. ⌜ openedSays r ≡ contents outer (now (content .entry)) ⌝ }
 {
+    let hdr = outer.hdr;
     let msg = outer.data;
-    let head = match envelope::parse_tls_message_head(content, 0) {
-        HeadAnswer::Refused(r) => {
-            return OpenedAnswer::Refused(first_refusal(r, msg.start));
+    if !is_opened(hdr.record_type) {
+        return OpenedAnswer::Refused(refusal::refuse(Reason::Switch, 0, 0));
+    }
+    match content_walk::message_at(hdr.record_type, content, 0) {
+        FoundAnswer::Refused(r) => {
+            OpenedAnswer::Refused(content_refusal(hdr.record_type, r, msg.start))
         }
-        HeadAnswer::Got(h) => h,
-    };
-    let body = head.body;
-    match envelope::parse_tls_handshake_body(head.msg_type, wire::view::part_of(content, body)) {
-        MessageAnswer::Refused(r) => {
-            OpenedAnswer::Refused(first_refusal(refusal::inside(r, body.start), msg.start))
-        }
-        MessageAnswer::Got(message) => {
-            let record = count_others(outer, content, head.next);
+        FoundAnswer::Got(x) => {
+            let record = count_others(outer, content, x.next);
+            let body = x.body;
+            let message = x.message;
             OpenedAnswer::Got(TlsPlaintextOpened {
                 record,
-                head,
+                body,
                 message,
             })
         }
@@ -124,10 +130,7 @@ pub fn open_tls_plaintext(i: &[u8]) -> OpenedAnswer
         }
         RawRecordAnswer::Got(x) => x,
     };
-    if record.hdr.record_type == registry::record::HANDSHAKE {
-        return open_first(record, wire::view::part_of(i, record.data));
-    }
-    OpenedAnswer::Refused(other_type(record.hdr.record_type))
+    open_first(record, wire::view::part_of(i, record.data))
 }
 
 // The record alone: what `open_tls_plaintext` finds, without its first message.
@@ -140,5 +143,53 @@ pub fn parse_tls_plaintext(i: &[u8]) -> PlaintextAnswer
             let record = x.record;
             PlaintextAnswer::Got(record)
         }
+    }
+}
+
+// The bytes opened as the content of a record of that header; its length is not looked at.
+pub fn parse_tls_record_with_header(i: &[u8], hdr: TlsRecordHeader) -> OpenedAnswer
+    ensures { λ r. ⌜ openedSays r ≡ withHeader hdr (now (i .entry)) ⌝ }
+{
+    let data = View {
+        start: 0,
+        len: i.len(),
+    };
+    let outer = TlsRawRecord {
+        hdr,
+        data,
+        next: i.len(),
+    };
+    open_first(outer, i)
+}
+
+// Where a record's content can be opened, the place past its first message, which is not handed
+// out.
+pub fn past_first(record_type: u8, content: &[u8], at: usize) -> PastAnswer
+    ensures { λ r. ⌜ pastSays r ≡ giving (λ x. x .next) (firstOf «record_type» at (now (content .entry))) ⌝ }
+{
+    if !is_opened(record_type) {
+        return PastAnswer::Refused(refusal::refuse(Reason::Switch, 0, 0));
+    }
+    match content_walk::past_message(record_type, content, 0) {
+        PastAnswer::Refused(r) => PastAnswer::Refused(content_refusal(record_type, r, at)),
+        PastAnswer::Got(next) => PastAnswer::Got(next),
+    }
+}
+
+// The record where it can be opened; its messages are not counted.
+pub fn meet_tls_record(i: &[u8]) -> RawRecordAnswer
+    ensures { λ r. ⌜ rawSays r ≡ recordMet (now (i .entry)) ⌝ }
+{
+    let outer = match record::parse_tls_raw_record(i) {
+        RawRecordAnswer::Refused(r) => {
+            return RawRecordAnswer::Refused(r);
+        }
+        RawRecordAnswer::Got(x) => x,
+    };
+    let hdr = outer.hdr;
+    let data = outer.data;
+    match past_first(hdr.record_type, wire::view::part_of(i, data), data.start) {
+        PastAnswer::Refused(r) => RawRecordAnswer::Refused(r),
+        PastAnswer::Got(_) => RawRecordAnswer::Got(outer),
     }
 }

@@ -28,7 +28,7 @@ use Rattle.message.specs.declared.handshake.TlsMessageHandshake.the-variants.{C
 use Rattle.message.proofs.handshake.TlsMessageHandshake.{the-type}
 use Rattle.envelope.specs.Opening.{Met, metAt}
 use Rattle.record_walk.specs.Walks.{nextMessage, moved}
-use Rattle.record_walk.specs.declared.TlsRecordWalk.{TlsRecordWalk}
+use Rattle.record_walk.specs.declared.TlsHandshakeWalk.{TlsHandshakeWalk}
 use Rattle.record_walk.proofs.Walking.{left, by-messages}
 use Rattle.record_tally.specs.Tally.{cutOff, serverCut, tally, countOf, metCount}
 use Rattle.record_tally.specs.Tally.{clientsOf, serversOf, cutOf}
@@ -103,7 +103,7 @@ one-each (NextProtocol c) len = none-each
 one-each (KeyUpdate n) len = none-each
 
 -- a turn of the walk: what is added, and what the messages that are left add
-pub record Turn (s : List ℕ) (w v : TlsRecordWalk) (t : HelloTally) : Type 0 where
+pub record Turn (s : List ℕ) (w v : TlsHandshakeWalk) (t : HelloTally) : Type 0 where
   pub on : w .next + 1 ≤ v .next
   pub inside : v .next ≤ length s
   pub one : One t
@@ -112,7 +112,7 @@ pub record Turn (s : List ℕ) (w v : TlsRecordWalk) (t : HelloTally) : Type 0 w
   pub cut : cutOf (left s (w .next)) ≡ t .cut + cutOf (left s (v .next))
 
 -- the same by the message that was met where the walk stands
-met-turn : (s : List ℕ) (w : TlsRecordWalk) {x : Met} → metAt s (w .next) ≡ accepted x
+met-turn : (s : List ℕ) (w : TlsHandshakeWalk) {x : Met} → metAt s (w .next) ≡ accepted x
     → Turn s w (record { body = x .head .body; next = x .head .next }) (metCount x)
 met-turn s w {x} e =
     let i = by-messages s .on (w .next) x e in
@@ -126,13 +126,13 @@ met-turn s w {x} e =
       cut = ap cutOf l;
     }
 
-moved-on : (s : List ℕ) (w : TlsRecordWalk) {x : Met} → metAt s (w .next) ≡ accepted x
+moved-on : (s : List ℕ) (w : TlsHandshakeWalk) {x : Met} → metAt s (w .next) ≡ accepted x
     → moved s w ≡ record { body = x .head .body; next = x .head .next }
 unfolding moved
 moved-on s w e = rw e
 
 -- and by the message that the walk hands out, and the walk moved on
-pub walk-turn : (s : List ℕ) (w : TlsRecordWalk) {m : TlsMessageHandshake} {v : TlsRecordWalk} {t : HelloTally}
+pub walk-turn : (s : List ℕ) (w : TlsHandshakeWalk) {m : TlsMessageHandshake} {v : TlsHandshakeWalk} {t : HelloTally}
     → nextMessage s w ≡ accepted m → v ≡ moved s w → t ≡ countOf m (v .body .len) → Turn s w v t
 unfolding nextMessage
 walk-turn s w {m} {v} {t} e d q =
@@ -140,11 +140,11 @@ walk-turn s w {m} {v} {t} e d q =
     let g = got (metAt s (w .next)) (a .1) in
     let b : a .0 .says ≡ m = cc (a .2) in
     let h = d ∙ moved-on s w g in
-    let k : t ≡ metCount (a .0) = q ∙ ap₂ countOf (sym b) (ap (λ (u : TlsRecordWalk). u .body .len) h) in
+    let k : t ≡ metCount (a .0) = q ∙ ap₂ countOf (sym b) (ap (λ (u : TlsHandshakeWalk). u .body .len) h) in
     rw (h, k) (met-turn s w g)
 
 -- where it hands out none, none is met
-pub walk-end : (s : List ℕ) (w : TlsRecordWalk) {r : Refusal} → nextMessage s w ≡ refused r → (y : Refusal)
+pub walk-end : (s : List ℕ) (w : TlsHandshakeWalk) {r : Refusal} → nextMessage s w ≡ refused r → (y : Refusal)
     × (metAt s (w .next) ≡ refused y)
 unfolding nextMessage
 walk-end s w {r} e = go (then-refused (orNoSuch (metAt s (w .next))) (λ x. accepted (x .says)) e)

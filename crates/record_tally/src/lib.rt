@@ -4,7 +4,7 @@ ghost use Rattle.record_tally.specs.Tally.{countOf, cutOff, helloTally, 
 use message::handshake::MessageAnswer;
 use message::handshake::TlsMessageHandshake;
 use read_server::tlsv12::TlsServerHelloContents;
-use record_walk::TlsRecordWalk;
+use record_walk::TlsHandshakeWalk;
 use wire::number::NumberAnswer;
 use wire::number::Width;
 use wire::view::OptView;
@@ -93,7 +93,7 @@ pub fn count_hellos(s: &[u8]) -> HelloTally
     let mut clients: usize = 0;
     let mut servers: usize = 0;
     let mut cut: usize = 0;
-    let mut walk = TlsRecordWalk::new();
+    let mut walk = TlsHandshakeWalk::new();
     loop {
         let walked = walk.next(s);
         let message = walked.message;

@@ -12,6 +12,8 @@ use Rattle.refusal.specs.declared.Reason.the-variants.{NoSuch}
 use Rattle.refusal.specs.declared.Refusal.{Refusal}
 use Rattle.refusal.proofs.Then.{not-both, then-accepted, then-refused}
 use Rattle.list.specs.Items.{itemsFrom, place, orNoSuch}
+use Rattle.list.specs.Stopping.{endOf, Takes}
+use Rattle.list.proofs.Stopping.{moves-by, ends-in, stops-by}
 use Rattle.list.proofs.Walk.{Moves, rest, fuel, rest-on, first, go-on, got, none, none-after, place-past}
 use Rattle.message.specs.declared.handshake.TlsMessageHandshake.{TlsMessageHandshake}
 use Rattle.envelope.specs.Opening.{Met, metAt}
@@ -20,7 +22,7 @@ use Rattle.envelope.proofs.Heads.{met-lies}
 use Rattle.record_walk.specs.Walks.{messages, messagesFrom, pastAll, dropped, metHead, nextMessage, moved}
 use Rattle.record_walk.specs.Walks.{walkAfter}
 use Rattle.record_walk.specs.Walking.{bytesOfAll, Walking}
-use Rattle.record_walk.specs.declared.TlsRecordWalk.{TlsRecordWalk}
+use Rattle.record_walk.specs.declared.TlsHandshakeWalk.{TlsHandshakeWalk}
 
 abbrev pub behind : Met → ℕ
 behind x = x .head .next
@@ -29,8 +31,15 @@ behind x = x .head .next
 abbrev pub left : List ℕ → ℕ → List Met
 left s at = rest (metAt s) behind (length s) at
 
+-- a message takes four bytes at least
+pub takes-messages : (s : List ℕ) → Takes (metAt s) behind 4 (length s)
+takes-messages s = record {
+  one = omega arith;
+  on = λ at x e. let i = met-lies s at e in (omega (arith, i .next), i .inside);
+}
+
 pub by-messages : (s : List ℕ) → Moves (metAt s) behind (length s)
-by-messages s = record { on = λ at x e. let i = met-lies s at e in (omega arith, i .inside) }
+by-messages s = moves-by (takes-messages s)
 
 pub all-from : (s : List ℕ) (at : ℕ) → messagesFrom s at ≡ left s at
 all-from s at = fuel (by-messages s) (length s) (length s - at) at (omega arith) (omega arith)
@@ -61,19 +70,9 @@ head-not-met s at {r} e = go (then-refused (metAt s at) (λ x. accepted (x .head
 
 -- where the messages from a place on end
 module _ (s : List ℕ) where
-  past-in : (n at : ℕ) → at ≤ length s → pastAll (itemsFrom n (metAt s) behind at) at ≤ length s
-  unfolding itemsFrom pastAll
-  past-in zero at h = h
-  past-in (suc n) at h = go (λ k l. past-in n k l) (metAt s at) refl
-    where
-      go : ((k : ℕ) → k ≤ length s → pastAll (itemsFrom n (metAt s) behind k) k ≤ length s) → (a : Answer Met)
-          → metAt s at ≡ a → pastAll (itemsFrom (suc n) (metAt s) behind at) at ≤ length s
-      go ih (accepted x) e = rw e (ih (behind x) (met-lies s at e .inside))
-      go ih (refused r) e = rw e h
-
   past-bytes : (n at : ℕ)
       → pastAll (itemsFrom n (metAt s) behind at) at ≡ at + bytesOfAll (itemsFrom n (metAt s) behind at)
-  unfolding itemsFrom pastAll bytesOfAll
+  unfolding itemsFrom endOf bytesOfAll
   past-bytes zero at = omega arith
   past-bytes (suc n) at = go (λ k. past-bytes n k) (metAt s at) refl
     where
@@ -85,27 +84,22 @@ module _ (s : List ℕ) where
       go ih (refused r) e = rw e (omega arith)
 
 pub past-inside : (s : List ℕ) → pastAll (messages s) 0 ≤ length s
-past-inside s = past-in s (length s) 0 (omega arith)
-
-four-each : (xs : List Met) → length xs * 4 ≤ bytesOfAll xs
-unfolding bytesOfAll
-four-each [] = omega arith
-four-each (x ∷ xs) = omega (arith, four-each xs)
+past-inside s = ends-in (takes-messages s) (length s) 0 (omega arith) .0
 
 -- from a place within the bytes on: where they end, and how many they are
 pub from-inside : (s : List ℕ) (at : ℕ) → at ≤ length s → (pastAll (messagesFrom s at) at ≤ length s)
     × (at + length (messagesFrom s at) * 4 ≤ length s)
 from-inside s at h =
-    let i = past-in s (length s) at h in
-    (i, omega (arith, i, past-bytes s (length s) at, four-each (messagesFrom s at)))
+    let i = ends-in (takes-messages s) (length s) at h in
+    (i .0, omega (arith, i .0, i .1))
 
 -- the walk moved on, by what is met
-moved-on : (s : List ℕ) (w : TlsRecordWalk) {x : Met} → metAt s (w .next) ≡ accepted x
+moved-on : (s : List ℕ) (w : TlsHandshakeWalk) {x : Met} → metAt s (w .next) ≡ accepted x
     → moved s w ≡ record { body = x .head .body; next = behind x }
 unfolding moved
 moved-on s w e = rw e
 
-moved-not : (s : List ℕ) (w : TlsRecordWalk) {r : Refusal} → metAt s (w .next) ≡ refused r → moved s w ≡ w
+moved-not : (s : List ℕ) (w : TlsHandshakeWalk) {r : Refusal} → metAt s (w .next) ≡ refused r → moved s w ≡ w
 unfolding moved
 moved-not s w e = rw e
 
@@ -135,7 +129,8 @@ module _ (s : List ℕ) where
   unfolding walkAfter
   tells k x e = moved-on s (walkAfter k s) (got (metAt s (walkAfter k s .next)) (stands k ∙ e))
 
-  stays : (w : TlsRecordWalk) (r : Refusal) → nextMessage s w ≡ refused r → (r ≡ refusal NoSuch 0 0) × (moved s w ≡ w)
+  stays : (w : TlsHandshakeWalk) (r : Refusal) → nextMessage s w ≡ refused r → (r ≡ refusal NoSuch 0 0)
+      × (moved s w ≡ w)
   unfolding nextMessage
   stays w r e = go (then-refused (orNoSuch (metAt s (w .next))) (λ x. accepted (x .says)) e)
     where
@@ -150,22 +145,19 @@ module _ (s : List ℕ) where
   whole = omega (arith, past-bytes s (length s) 0, past-inside s)
 
   steps : length (messages s) * 4 ≤ length s
-  steps = omega (arith, whole, four-each (messages s))
+  steps = stops-by (takes-messages s) .steps
 
   ends : (k : ℕ) → length s < suc k * 4 → nextMessage s (walkAfter k s) ≡ refused (refusal NoSuch 0 0)
   ends k h = meets k ∙ rw (place-past k (messages s) (omega (arith, h, steps)))
 
 pub every-walk : (s : List ℕ) → Walking s
 every-walk s =
-    let more : (n : ℕ) → length s ≤ n
-    → itemsFrom n (metAt s) behind 0 ≡ messages s =
-    λ n h. fuel (by-messages s) n (length s) 0 (omega arith) (omega arith) in
     record {
       meets = meets s;
       tells = tells s;
       stays = stays s;
       whole = whole s;
       steps = steps s;
-      noneMore = more;
+      noneMore = stops-by (takes-messages s) .noneMore;
       ends = ends s;
     }

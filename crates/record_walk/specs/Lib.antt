@@ -1,4 +1,4 @@
 pub mod Walks
 pub mod Walking
-pub use Walks.{messages, dropped, metHead, nextMessage}
-pub use declared.TlsRecordWalk.{TlsRecordWalk}
+pub use Walks.{messages, metHead, nextMessage}
+pub use declared.TlsHandshakeWalk.{TlsHandshakeWalk}

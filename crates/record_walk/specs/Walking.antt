@@ -3,7 +3,7 @@ use Rattle.refusal.specs.{ℕ, suc, _+_, _*_, _<_, _≤_, _≡_, List, [], _∷
 use Rattle.list.specs.{itemsFrom, place}
 use Rattle.envelope.specs.{Met, metAt}
 use Rattle.record_walk.specs.Walks.{messages, dropped, nextMessage, moved, walkAfter}
-use Rattle.record_walk.specs.declared.TlsRecordWalk.{TlsRecordWalk}
+use Rattle.record_walk.specs.declared.TlsHandshakeWalk.{TlsHandshakeWalk}
 
 -- the bytes of messages: the head's four and the body's
 unfoldable pub bytesOfAll : List Met → ℕ
@@ -16,7 +16,7 @@ pub record Walking (content : List ℕ) : Type 0 where
   -- and the walk moved on tells where that message's body lies and where the next begins
   pub tells : (k : ℕ) (x : Met) → place k (messages content) ≡ accepted x → walkAfter (suc k) content ≡ record { body = x .head .body; next = x .head .next }
   -- a walk that hands back no message says NoSuch and stays
-  pub stays : (w : TlsRecordWalk) (r : Refusal) → nextMessage content w ≡ refused r → (r ≡ refusal NoSuch 0 0) × (moved content w ≡ w)
+  pub stays : (w : TlsHandshakeWalk) (r : Refusal) → nextMessage content w ≡ refused r → (r ≡ refusal NoSuch 0 0) × (moved content w ≡ w)
   -- steps in proportion: each byte is one message's or is dropped, and each message has four at
   -- least
   pub whole : bytesOfAll (messages content) + dropped content ≡ length content

@@ -1,10 +1,10 @@
 -- The messages of a handshake record's content, and the walk over them: RULES 6.6 to 6.8; RFC 5246
 -- 6.2.1.
-use Rattle.refusal.specs.{ℕ, zero, suc, _-_, _≡_, List, [], _∷_, length, Answer, accepted, refused, giving}
-use Rattle.list.specs.{itemsFrom, orNoSuch}
+use Rattle.refusal.specs.{ℕ, zero, suc, _≡_, List, length, Answer, accepted, refused, giving}
+use Rattle.list.specs.{itemsFrom, orNoSuch, endOf, leftOver}
 use Rattle.message.specs.{TlsMessageHandshake}
 use Rattle.envelope.specs.{Met, byType, metAt, TlsMessageHead}
-use Rattle.record_walk.specs.declared.TlsRecordWalk.{TlsRecordWalk}
+use Rattle.record_walk.specs.declared.TlsHandshakeWalk.{TlsHandshakeWalk}
 
 -- from a place on, until one is refused: each takes four bytes at least
 abbrev pub messagesFrom : List ℕ → ℕ → List Met
@@ -14,12 +14,11 @@ abbrev pub messages : List ℕ → List Met
 messages s = messagesFrom s 0
 
 -- the place past all of them, the first beginning at a place
-unfoldable pub pastAll : List Met → ℕ → ℕ
-pastAll [] at = at
-pastAll (x ∷ xs) at = pastAll xs (x .head .next)
+abbrev pub pastAll : List Met → ℕ → ℕ
+pastAll xs at = endOf (λ x. x .head .next) xs at
 
 abbrev pub dropped : List ℕ → ℕ
-dropped s = length s - pastAll (messages s) 0
+dropped s = leftOver (λ x. x .head .next) (messages s) (length s)
 
 -- the head of the message that is met at a place
 unfoldable pub metHead : List ℕ → ℕ → Answer TlsMessageHead
@@ -30,22 +29,22 @@ abbrev pub OpensAny : ℕ → Type 0
 OpensAny msgType = (s : List ℕ) → (m : TlsMessageHandshake) × (byType msgType s ≡ accepted m)
 
 -- the walk before the first message
-abbrev pub freshWalk : TlsRecordWalk
+abbrev pub freshWalk : TlsHandshakeWalk
 freshWalk = record { body = record { start = 0; len = 0 }; next = 0 }
 
 -- the message that a walk hands back
-unfoldable pub nextMessage : List ℕ → TlsRecordWalk → Answer TlsMessageHandshake
+unfoldable pub nextMessage : List ℕ → TlsHandshakeWalk → Answer TlsMessageHandshake
 nextMessage s w = giving (λ x. x .says) (orNoSuch (metAt s (w .next)))
 
-abbrev pub onTo : TlsRecordWalk → Answer Met → TlsRecordWalk
+abbrev pub onTo : TlsHandshakeWalk → Answer Met → TlsHandshakeWalk
 onTo w (accepted x) = record { body = x .head .body; next = x .head .next }
 onTo w (refused r) = w
 
 -- and the walk moved on
-unfoldable pub moved : List ℕ → TlsRecordWalk → TlsRecordWalk
+unfoldable pub moved : List ℕ → TlsHandshakeWalk → TlsHandshakeWalk
 moved s w = onTo w (metAt s (w .next))
 
 -- the walk after so many calls
-unfoldable pub walkAfter : ℕ → List ℕ → TlsRecordWalk
+unfoldable pub walkAfter : ℕ → List ℕ → TlsHandshakeWalk
 walkAfter zero s = freshWalk
 walkAfter (suc k) s = moved s (walkAfter k s)

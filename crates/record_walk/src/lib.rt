@@ -15,7 +15,7 @@ use wire::view::View;
 
 // Where the walk stands: the body of the message handed out last, empty before the first, and where
 // the next message begins.
-pub struct TlsRecordWalk {
+pub struct TlsHandshakeWalk {
     pub body: View,
     pub next: usize,
 }
@@ -23,16 +23,16 @@ pub struct TlsRecordWalk {
 // The message, and the walk moved on; past the last message NoSuch, and the walk as it was.
 pub struct Walked {
     pub message: MessageAnswer,
-    pub walk: TlsRecordWalk,
+    pub walk: TlsHandshakeWalk,
 }
 
-impl TlsRecordWalk {
+impl TlsHandshakeWalk {
     // Makes a walk that stands before the first message.
     pub fn new() -> Self
         ensures { λ r. ⌜ r ≡ freshWalk ⌝ }
     {
         let body = View { start: 0, len: 0 };
-        TlsRecordWalk { body, next: 0 }
+        TlsHandshakeWalk { body, next: 0 }
     }
 
     // Hands out the next message and the walk moved on; the message's views are of its body,
@@ -62,7 +62,7 @@ impl TlsRecordWalk {
             }
             MessageAnswer::Got(m) => {
                 let message = MessageAnswer::Got(m);
-                let walk = TlsRecordWalk {
+                let walk = TlsHandshakeWalk {
                     body,
                     next: head.next,
                 };

@@ -9,14 +9,14 @@ use Rattle.refusal.specs.Refusals.{numberOf, refusal, unplaced, inside, 
 use Rattle.refusal.specs.Answers.{Answer, accepted, refused, TellSame, OneResult}
 use Rattle.refusal.specs.declared.Reason.{Reason}
 use Rattle.refusal.specs.declared.Reason.the-variants.{Incomplete, Complete, Verify, LengthValue, Tag, Switch}
-use Rattle.refusal.specs.declared.Reason.the-variants.{TooLarge, BadLength, NoRoom, Elsewhere, NoSuch}
+use Rattle.refusal.specs.declared.Reason.the-variants.{TooLarge, BadLength, NoRoom, NoSuch}
 use Rattle.refusal.specs.declared.Reason.the-variants.{NotYetImplemented}
 use Rattle.refusal.specs.declared.Refusal.{Refusal}
 
 -- the table's rows, from 1 on
 rows : List Reason
 rows = Incomplete ∷ Incomplete ∷ Complete ∷ Verify ∷ LengthValue ∷ Tag ∷ Switch ∷ TooLarge ∷ BadLength ∷ NoRoom
-    ∷ Elsewhere ∷ NoSuch ∷ NotYetImplemented ∷ []
+    ∷ Incomplete ∷ NoSuch ∷ NotYetImplemented ∷ []
 
 row-of : (r : Reason) → getD rows (numberOf r) Incomplete ≡ r
 unfolding rows
@@ -29,7 +29,6 @@ row-of Switch = refl
 row-of TooLarge = refl
 row-of BadLength = refl
 row-of NoRoom = refl
-row-of Elsewhere = refl
 row-of NoSuch = refl
 row-of NotYetImplemented = refl
 
@@ -70,7 +69,6 @@ not-zero Switch e = omega (arith, e)
 not-zero TooLarge e = omega (arith, e)
 not-zero BadLength e = omega (arith, e)
 not-zero NoRoom e = omega (arith, e)
-not-zero Elsewhere e = omega (arith, e)
 not-zero NoSuch e = omega (arith, e)
 not-zero NotYetImplemented e = omega (arith, e)
 

@@ -5,4 +5,4 @@ pub use Words.{ℕ, _+_, _-_, zero, suc, _*_, _/_, _%_, _^_, _<_, _≤_, _≡_, 
 pub use Refusals.{numberOf, NumbersApart, OneOf, refusal, unplaced, inside}
 pub use Answers.{Answer, accepted, refused, numberIn, valuesIn, OneResult, then, giving, orElse, within}
 pub use declared.{Reason.Reason, Refusal.Refusal}
-pub use declared.Reason.the-variants.{Incomplete, Verify, Complete, NoSuch, Switch, LengthValue, TooLarge, BadLength, NotYetImplemented, Tag, Elsewhere, NoRoom}
+pub use declared.Reason.the-variants.{Incomplete, Verify, Complete, NoSuch, Switch, LengthValue, TooLarge, BadLength, NotYetImplemented, Tag, NoRoom}

@@ -1,7 +1,7 @@
 -- The numbers of the table of refusals, and what a refusal is made from: RULES 1.1, 1.3.
 use Rattle.refusal.specs.Words.{ℕ, _≡_, _⊎_, List, [], _∷_}
 use Rattle.refusal.specs.declared.{Reason.Reason, Refusal.Refusal}
-use Rattle.refusal.specs.declared.Reason.the-variants.{Incomplete, Complete, Verify, LengthValue, Tag, Switch, TooLarge, BadLength, NoRoom, Elsewhere, NoSuch, NotYetImplemented}
+use Rattle.refusal.specs.declared.Reason.the-variants.{Incomplete, Complete, Verify, LengthValue, Tag, Switch, TooLarge, BadLength, NoRoom, NoSuch, NotYetImplemented}
 
 abbrev pub numberOf : Reason → ℕ
 numberOf Incomplete = 1
@@ -13,7 +13,6 @@ numberOf Switch = 6
 numberOf TooLarge = 7
 numberOf BadLength = 8
 numberOf NoRoom = 9
-numberOf Elsewhere = 10
 numberOf NoSuch = 11
 numberOf NotYetImplemented = 12
 

@@ -3,7 +3,7 @@
 ghost use mathlib.Core.Path.{_≡_};
 ghost use Rattle.refusal.specs.Refusals.{inside, numberOf, refusal, unplaced};
 
-// Why a call is refused: rows 1 to 12 of RULES 1.1, in their order.
+// Why a call is refused: rows 1 to 12 of RULES 1.1, in their order; there is no 10.
 pub enum Reason {
     Incomplete,
     Complete,
@@ -14,7 +14,6 @@ pub enum Reason {
     TooLarge,
     BadLength,
     NoRoom,
-    Elsewhere,
     NoSuch,
     NotYetImplemented,
 }
@@ -63,7 +62,6 @@ pub fn refusal_number(r: Refusal) -> u8
         Reason::TooLarge => 7,
         Reason::BadLength => 8,
         Reason::NoRoom => 9,
-        Reason::Elsewhere => 10,
         Reason::NoSuch => 11,
         Reason::NotYetImplemented => 12,
     }

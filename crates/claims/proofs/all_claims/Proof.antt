@@ -18,12 +18,18 @@ use Rattle.message.proofs.Answers.{one-message}
 use Rattle.open_hellos.proofs.Opened as hellos
 use Rattle.envelope.proofs.Answers.{one-head}
 use Rattle.record_walk.proofs.Walking.{every-walk}
+use Rattle.content.proofs.Answers.{one-content, one-alert, one-heartbeat}
+use Rattle.content_walk.proofs.Answers.{one-found, one-past}
+use Rattle.content_walk.proofs.Walking.{every-content}
 use Rattle.record.proofs.Whole as records
 use Rattle.record_open.proofs.Answers.{one-plaintext, one-opened}
+use Rattle.record_many.proofs.Answers.{one-many}
+use Rattle.record_many.proofs.Records.{every-many}
 use Rattle.record_joined.proofs.Joined.{no-record-more, same-bytes}
 use Rattle.norrabist_c.proofs.HellosBack.{hellos-back}
 use Rattle.norrabist_c.proofs.BodiesBack.{bodies-back, lists-back}
 use Rattle.norrabist_c.proofs.HeadsBack.{heads-back}
+use Rattle.norrabist_c.proofs.ContentsBack.{contents-back}
 use Rattle.norrabist_c.proofs.Slices.{slices-same}
 use Rattle.claim_wayback.proofs.Hellos.{every-text}
 use Rattle.claim_wayback.proofs.Demand3 as back
@@ -58,6 +64,12 @@ returns c = record {
   oneEncrypted = records.one-encrypted;
   onePlaintext = one-plaintext;
   oneOpened = one-opened;
+  oneContent = one-content;
+  oneAlert = one-alert;
+  oneHeartbeat = one-heartbeat;
+  oneFound = one-found;
+  onePast = one-past;
+  oneMany = one-many;
   numbers = every-width;
   readsClient = client.demand3;
   readsServer = server.demand3;
@@ -90,6 +102,8 @@ returns c = record {
   splitsRecord = records.all-records;
   noRecordMore = no-record-more;
   walks = every-walk;
+  contents = every-content;
+  many = every-many;
   readers = every-reader;
   sameBytes = same-bytes;
   wayBack = way-back;
@@ -97,6 +111,7 @@ returns c = record {
   bodiesTold = bodies-back;
   listsTold = lists-back;
   headsTold = heads-back;
+  contentsTold = contents-back;
   slicesSame = slices-same;
   header = header-and-record;
   kinds = tells-its-type;

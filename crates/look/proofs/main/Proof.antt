@@ -6,10 +6,11 @@ use Rattle.look.proofs.main.Statement.{statement}
 use Rattle.look.proofs.main.Tie as tie
 
 abbrev Inv-loop : tie.InvT-loop
-Inv-loop window₀ have₀ all₀ place₀ at₀ owed₀ turn₀ window have all place at owed turn = Unit
+Inv-loop window₀ have₀ all₀ place₀ at₀ owed₀ after₀ turn₀ window have all place at owed after turn = Unit
 
 abbrev μ-loop : tie.MeasureT-loop
-μ-loop window₀ have₀ all₀ place₀ at₀ owed₀ turn₀ window have all place at owed turn = 18446744073709551615 - turn
+μ-loop window₀ have₀ all₀ place₀ at₀ owed₀ after₀ turn₀ window have all place at owed after turn =
+    18446744073709551615 - turn
 
 slice-aggregate-read-full : tie.Need-slice-aggregate-read-full Inv-loop μ-loop
 slice-aggregate-read-full c = search needs
@@ -50,6 +51,9 @@ record-from-requires c κs = search needs
 enum-known-r : tie.Need-enum-known-r Inv-loop μ-loop
 enum-known-r c = search needs
 
+is-sealed-requires : tie.Need-is-sealed-requires Inv-loop μ-loop
+is-sealed-requires c κs = search needs
+
 passed-over-requires : tie.Need-passed-over-requires Inv-loop μ-loop
 passed-over-requires c κs = search needs
 
@@ -68,20 +72,26 @@ both-requires c κs = search needs
 owed-after-requires : tie.Need-owed-after-requires Inv-loop μ-loop
 owed-after-requires c κs = search needs
 
+rest-of-requires-2 : tie.Need-rest-of-requires-2 Inv-loop μ-loop
+rest-of-requires-2 c κs = search needs
+
+sealed-after-requires : tie.Need-sealed-after-requires Inv-loop μ-loop
+sealed-after-requires c κs = search needs
+
 behind-requires : tie.Need-behind-requires Inv-loop μ-loop
 behind-requires c κs = search needs
 
 enum-told-2 : tie.Need-enum-told-2 Inv-loop μ-loop
 enum-told-2 c = search needs
 
-rest-of-requires-2 : tie.Need-rest-of-requires-2 Inv-loop μ-loop
-rest-of-requires-2 c κs = search needs
+rest-of-requires-3 : tie.Need-rest-of-requires-3 Inv-loop μ-loop
+rest-of-requires-3 c κs = search needs
 
 slice-aggregate-gen-bytes : tie.Need-slice-aggregate-gen-bytes Inv-loop μ-loop
 slice-aggregate-gen-bytes c = search needs
 
-rest-of-requires-3 : tie.Need-rest-of-requires-3 Inv-loop μ-loop
-rest-of-requires-3 c κs = search needs
+rest-of-requires-4 : tie.Need-rest-of-requires-4 Inv-loop μ-loop
+rest-of-requires-4 c κs = search needs
 
 gen-bytes-requires : tie.Need-gen-bytes-requires Inv-loop μ-loop
 gen-bytes-requires c κs = search needs
@@ -113,8 +123,8 @@ loop-again c = search needs
 filled-requires-2 : tie.Need-filled-requires-2 Inv-loop μ-loop
 filled-requires-2 c κs = search needs
 
-rest-of-requires-4 : tie.Need-rest-of-requires-4 Inv-loop μ-loop
-rest-of-requires-4 c κs = search needs
+rest-of-requires-5 : tie.Need-rest-of-requires-5 Inv-loop μ-loop
+rest-of-requires-5 c κs = search needs
 
 say-end-requires : tie.Need-say-end-requires Inv-loop μ-loop
 say-end-requires c κs = search needs
@@ -141,17 +151,20 @@ main-spec =
     filled-requires
     record-from-requires
     enum-known-r
+    is-sealed-requires
     passed-over-requires
     rest-of-requires
     say-record-requires
     sums-of-requires
     both-requires
     owed-after-requires
+    rest-of-requires-2
+    sealed-after-requires
     behind-requires
     enum-told-2
-    rest-of-requires-2
-    slice-aggregate-gen-bytes
     rest-of-requires-3
+    slice-aggregate-gen-bytes
+    rest-of-requires-4
     gen-bytes-requires
     sub-read-full
     part-next-start
@@ -162,6 +175,6 @@ main-spec =
     loop-less
     loop-again
     filled-requires-2
-    rest-of-requires-4
+    rest-of-requires-5
     say-end-requires
     returns-2)

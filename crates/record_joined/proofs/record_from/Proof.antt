@@ -8,7 +8,7 @@ use lib.ListN.{length, length-drop, drop}
 use Rattle.refusal.proofs.Told.{case}
 use Rattle.record.specs.Records.{rawSays}
 use Rattle.record_joined.specs.Joined.{recordFrom}
-use Rattle.record_joined.proofs.Joined.{raw-lies}
+use Rattle.record.proofs.Lies.{raw-lies}
 use Rattle.record_joined.proofs.record_from.Statement.{statement}
 use Rattle.record_joined.proofs.record_from.Tie as tie
 

@@ -1,8 +1,5 @@
--- `record_open::open_tls_plaintext` meets its contract: the record, its type, and then its first
--- message. Assumes nothing.
-use mathlib.Core.Path.{ap}
-use borrow.Author.Tests.{eq-eqb, ne-eqb}
-use Rattle.refusal.specs.Answers.{refused}
+-- `record_open::open_tls_plaintext` meets its contract: the record, and then its content. Assumes
+-- nothing.
 use Rattle.refusal.proofs.Told.{case}
 use Rattle.record.specs.Records.{rawSays}
 use Rattle.record_open.specs.Plaintext.{openedFirst}
@@ -32,25 +29,11 @@ open-first-requires c κs = search needs
 returns-2 : tie.Need-returns-2
 unfolding openedFirst
 returns-2 c =
-    let g = c .before .before .before .before .before in
+    let x = c .before .before .before in
     rw (
-      case rawSays (g .before .before .parse-tls-raw-record .ensures) (g .x .given .1),
-      eq-eqb (g .x .given .0 .0 .hdr .«record_type») 0x16 (c .before .before .if1 .taken),
+      case rawSays (x .before .before .parse-tls-raw-record .ensures) (x .x .given .1),
       ← (c .before .part-of .ensures),
     ) (c .open-first .ensures)
-
-other-type-requires : tie.Need-other-type-requires
-other-type-requires c κs = search needs
-
-returns-3 : tie.Need-returns-3
-unfolding openedFirst
-returns-3 c =
-    let g = c .before .before .before .before in
-    rw (
-      case rawSays (g .before .before .parse-tls-raw-record .ensures) (g .x .given .1),
-      ne-eqb (g .x .given .0 .0 .hdr .«record_type») 0x16 (c .before .if1 .left),
-    )
-    (ap refused (c .other-type .ensures))
 
 pub open-tls-plaintext-spec : {M : Type 1} → statement M
 open-tls-plaintext-spec =
@@ -62,6 +45,4 @@ open-tls-plaintext-spec =
     enum-known-x
     part-of-requires
     open-first-requires
-    returns-2
-    other-type-requires
-    returns-3)
+    returns-2)

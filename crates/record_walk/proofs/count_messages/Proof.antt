@@ -7,6 +7,7 @@ use lib.ListN.{length}
 use denote.Ref.{now}
 use borrow.Author.Needs.{needs}
 use Rattle.refusal.proofs.Told.{case}
+use Rattle.list.specs.Stopping.{endOf}
 use Rattle.list.proofs.Walk.{rest-on, rest-end}
 use Rattle.envelope.specs.Opening.{headSays}
 use Rattle.record_walk.specs.Walks.{messagesFrom, pastAll}
@@ -34,7 +35,7 @@ enum-known-stop : tie.Need-enum-known-stop Inv-loop μ-loop
 enum-known-stop c = search needs
 
 returns : tie.Need-returns Inv-loop μ-loop
-unfolding pastAll
+unfolding endOf
 returns c =
     let l = c .before .before .before .before in
     let e = head-not-met _ _
@@ -62,7 +63,7 @@ loop-less c =
     omega (arith, i, m .2)
 
 loop-again : tie.Need-loop-again Inv-loop μ-loop
-unfolding pastAll
+unfolding endOf
 loop-again c =
     let l = c .before .before .before .before in
     let m = head-met _ _

@@ -6,10 +6,10 @@ use Rattle.check_rows.proofs.record_rows.say_walk.Statement.{statement}
 use Rattle.check_rows.proofs.record_rows.say_walk.Tie as tie
 
 abbrev Inv-loop : tie.InvT-loop
-Inv-loop content count walk₀ k₀ t8 t9 walk k = Unit
+Inv-loop record-type content count walk₀ k₀ t8 t9 walk k = Unit
 
 abbrev μ-loop : tie.MeasureT-loop
-μ-loop content count walk₀ k₀ t8 t9 walk k = count - k
+μ-loop record-type content count walk₀ k₀ t8 t9 walk k = count - k
 
 slice-aggregate-text : tie.Need-slice-aggregate-text Inv-loop μ-loop
 slice-aggregate-text c = search needs

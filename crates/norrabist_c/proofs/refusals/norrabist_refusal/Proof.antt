@@ -1,8 +1,13 @@
 -- `norrabist_c::refusals::norrabist_refusal` meets its contract: the number decides. Assumes
 -- nothing.
+use mathlib.Core.Bool.{false, _&&_}
+use mathlib.Core.Logic.{⊎-elim}
+use mathlib.Core.Path.{_≡_}
+use native.Mathlib.Omega.{arith}
 use borrow.Author.Tests.{ne-eqb}
+use lib.Dec.{leb, ltb}
 use Rattle.norrabist_c.specs.Readers.{answerOf}
-use Rattle.norrabist_c.proofs.Verdicts.{by-type, unlisted}
+use Rattle.norrabist_c.proofs.Verdicts.{above-contents, below-contents, by-content, by-type, unlisted}
 use borrow.Author.Needs.{needs}
 use Rattle.norrabist_c.proofs.refusals.norrabist_refusal.Statement.{statement}
 use Rattle.norrabist_c.proofs.refusals.norrabist_refusal.Tie as tie
@@ -25,11 +30,29 @@ of-walk-requires c κs = search needs
 of-server-requires : tie.Need-of-server-requires
 of-server-requires c κs = search needs
 
+of-many-requires : tie.Need-of-many-requires
+of-many-requires c κs = search needs
+
+of-cipher-spec-requires : tie.Need-of-cipher-spec-requires
+of-cipher-spec-requires c κs = search needs
+
+of-alert-requires : tie.Need-of-alert-requires
+of-alert-requires c κs = search needs
+
+of-heartbeat-requires : tie.Need-of-heartbeat-requires
+of-heartbeat-requires c κs = search needs
+
 cast-of-body : tie.Need-cast-of-body
 cast-of-body c = search needs
 
 of-body-requires : tie.Need-of-body-requires
 of-body-requires c κs = search needs
+
+cast-of-content : tie.Need-cast-of-content
+cast-of-content c = omega (arith, c .if3 .taken, c .before .if2 .left)
+
+of-content-requires : tie.Need-of-content-requires
+of-content-requires c κs = search needs
 
 unplaced-requires : tie.Need-unplaced-requires
 unplaced-requires c κs = search needs
@@ -62,24 +85,53 @@ unfolding answerOf
 returns-6 c = rw (c .before .match .keys6) (c .of-server .ensures)
 
 returns-7 : tie.Need-returns-7
-returns-7 c = rw (by-type _ _ _ (c .before .if1 .taken)) (c .of-body .ensures)
+unfolding answerOf
+returns-7 c = rw (c .before .match .keys7) (c .of-many .ensures)
 
 returns-8 : tie.Need-returns-8
 unfolding answerOf
-returns-8 c =
-    let g = c .before .before .before in
+returns-8 c = rw (c .before .match .keys8) (c .of-cipher-spec .ensures)
+
+returns-9 : tie.Need-returns-9
+unfolding answerOf
+returns-9 c = rw (c .before .match .keys9) (c .of-alert .ensures)
+
+returns-10 : tie.Need-returns-10
+unfolding answerOf
+returns-10 c = rw (c .before .match .keys10) (c .of-heartbeat .ensures)
+
+returns-11 : tie.Need-returns-11
+returns-11 c = rw (by-type _ _ _ (c .before .if1 .taken)) (c .of-body .ensures)
+
+returns-12 : tie.Need-returns-12
+returns-12 c =
+    rw (by-content _ _ _ (c .before .before .if2 .left) (c .before .if3 .taken)) (c .of-content .ensures)
+
+returns-13 : tie.Need-returns-13
+unfolding answerOf
+returns-13 c =
+    let i = c .before .before in
+    let g = i .before .before in
     let k = g .before .before .args .reader in
     let m = g .match .rest in
+    let d : (leb 0x0200 k && ltb k 0x0300) ≡ false =
+    ⊎-elim (λ w. below-contents k (w .taken)) (λ w. above-contents k (w .1 .left)) (i .if2 .came) in
     rw (
-      ne-eqb k 0x0100 (m .0 .0 .0 .0 .0 .1),
-      ne-eqb k 0x0101 (m .0 .0 .0 .0 .1),
-      ne-eqb k 0x0102 (m .0 .0 .0 .1),
-      ne-eqb k 0x0103 (m .0 .0 .1),
-      ne-eqb k 0x0104 (m .0 .1),
-      ne-eqb k 0x0105 (m .1),
-      unlisted k _ _ (c .before .before .if1 .left),
+      ne-eqb k 0x0100 (m .0 .0 .0 .0 .0 .0 .0 .0 .0 .1),
+      ne-eqb k 0x0101 (m .0 .0 .0 .0 .0 .0 .0 .0 .1),
+      ne-eqb k 0x0102 (m .0 .0 .0 .0 .0 .0 .0 .1),
+      ne-eqb k 0x0103 (m .0 .0 .0 .0 .0 .0 .1),
+      ne-eqb k 0x0104 (m .0 .0 .0 .0 .0 .1),
+      ne-eqb k 0x0105 (m .0 .0 .0 .0 .1),
+      ne-eqb k 0x0106 (m .0 .0 .0 .1),
+      ne-eqb k 0x0107 (m .0 .0 .1),
+      ne-eqb k 0x0108 (m .0 .1),
+      ne-eqb k 0x0109 (m .1),
+      d,
+      unlisted k _ _ (i .before .if1 .left),
       ← (c .before .unplaced .ensures),
-    ) (c .carried .ensures)
+    )
+    (c .carried .ensures)
 
 pub norrabist-refusal-spec : {M : Type 1} → statement M
 norrabist-refusal-spec =
@@ -91,8 +143,14 @@ norrabist-refusal-spec =
     of-message-requires
     of-walk-requires
     of-server-requires
+    of-many-requires
+    of-cipher-spec-requires
+    of-alert-requires
+    of-heartbeat-requires
     cast-of-body
     of-body-requires
+    cast-of-content
+    of-content-requires
     unplaced-requires
     carried-requires
     returns
@@ -102,4 +160,9 @@ norrabist-refusal-spec =
     returns-5
     returns-6
     returns-7
-    returns-8)
+    returns-8
+    returns-9
+    returns-10
+    returns-11
+    returns-12
+    returns-13)
