@@ -51,16 +51,18 @@ extern "C" {
 #endif
 
 /* The table of refusals (RULES 1). It may grow: a number that is not here is one of a later
-   version, and no other one's. */
+   version, and no other one's. There is no number 10. */
 enum norrabist_reason {
     NORRABIST_ACCEPTED = 0,
     /* a part runs past the bytes, but for LENGTH_VALUE's, extensions, list items */
     NORRABIST_INCOMPLETE = 1,
-    /* INCOMPLETE in a record's first message; both CertificateRequest forms run out */
+    /* INCOMPLETE in the first message of a record, but for a heartbeat, or in the first of joined
+       records; both CertificateRequest forms run out */
     NORRABIST_COMPLETE = 2,
     /* session id length over MAX_ID_LEN; ticket body under TICKET_AT bytes */
     NORRABIST_VERIFY = 3,
-    /* cipher length odd or past the end; method length past the end */
+    /* cipher length odd or past the end; method length past the end; ChangeCipherSpec not 1; alert
+       level or heartbeat type not 1 or 2; payload that leaves under MIN_PADDING_LEN bytes */
     NORRABIST_LENGTH_VALUE = 4,
     /* ServerHello version not listed */
     NORRABIST_TAG = 5,
@@ -72,11 +74,9 @@ enum norrabist_reason {
     NORRABIST_BAD_LENGTH = 8,
     /* the output is too short */
     NORRABIST_NO_ROOM = 9,
-    /* a known record type but HANDSHAKE, opened as plaintext */
-    NORRABIST_ELSEWHERE = 10,
     /* a walk past its last message, a list past its last item */
     NORRABIST_NO_SUCH = 11,
-    /* a handshake kind that is not written */
+    /* a message that is not written */
     NORRABIST_NOT_YET_IMPLEMENTED = 12
 };
 
@@ -93,7 +93,6 @@ static inline const char *norrabist_reason_name(uint8_t number) {
     case NORRABIST_TOO_LARGE: return "TooLarge";
     case NORRABIST_BAD_LENGTH: return "BadLength";
     case NORRABIST_NO_ROOM: return "NoRoom";
-    case NORRABIST_ELSEWHERE: return "Elsewhere";
     case NORRABIST_NO_SUCH: return "NoSuch";
     case NORRABIST_NOT_YET_IMPLEMENTED: return "NotYetImplemented";
     default: return "unknown";
@@ -107,6 +106,18 @@ enum norrabist_record_type {
     NORRABIST_HANDSHAKE = 0x16,
     NORRABIST_APPLICATION_DATA = 0x17,
     NORRABIST_HEARTBEAT = 0x18
+};
+
+/* The levels of an alert (RULES 6). */
+enum norrabist_severity {
+    NORRABIST_WARNING = 0x01,
+    NORRABIST_FATAL = 0x02
+};
+
+/* The types of a heartbeat (RULES 6). */
+enum norrabist_heartbeat_type {
+    NORRABIST_HEART_BEAT_REQUEST = 0x01,
+    NORRABIST_HEART_BEAT_RESPONSE = 0x02
 };
 
 /* The versions of which a ServerHello is read (RULES 3). */
@@ -165,14 +176,24 @@ enum norrabist_reader {
     NORRABIST_READER_RECORD_HEADER = 0x0100,
     /* norrabist_parse_tls_raw_record */
     NORRABIST_READER_RAW_RECORD = 0x0101,
-    /* a record of type HANDSHAKE with its first message, body included */
+    /* a record with its first message, body included */
     NORRABIST_READER_PLAINTEXT = 0x0102,
     /* the message at a byte, body included */
     NORRABIST_READER_MESSAGE = 0x0103,
-    /* the walk over a record's content, at a byte */
+    /* the walk over the content of a record of type HANDSHAKE, at a byte */
     NORRABIST_READER_WALK = 0x0104,
     /* norrabist_parse_tls_handshake_server_hello */
-    NORRABIST_READER_SERVER_HELLO = 0x0105
+    NORRABIST_READER_SERVER_HELLO = 0x0105,
+    /* norrabist_tls_parser_many */
+    NORRABIST_READER_MANY = 0x0106,
+    /* norrabist_parse_tls_message_changecipherspec */
+    NORRABIST_READER_CHANGE_CIPHER_SPEC = 0x0107,
+    /* norrabist_parse_tls_message_alert */
+    NORRABIST_READER_ALERT = 0x0108,
+    /* norrabist_parse_tls_message_heartbeat */
+    NORRABIST_READER_HEARTBEAT = 0x0109,
+    /* plus the type of a record: its content with the first message, body included */
+    NORRABIST_READER_CONTENT = 0x0200
 };
 
 /* The forms of a ClientKeyExchange. One that was read is FORM_UNKNOWN. */
@@ -196,6 +217,10 @@ enum norrabist_length {
     NORRABIST_RANDOM_LEN = 32,
     /* a cipher, a signature pair */
     NORRABIST_NUMBER_LEN = 2,
+    /* an alert: level and description */
+    NORRABIST_ALERT_LEN = 2,
+    /* the padding of a heartbeat, at least */
+    NORRABIST_MIN_PADDING_LEN = 16,
     /* the content of a record, at most */
     NORRABIST_MAX_RECORD_LEN = 0x4100,
     /* a session id */
@@ -214,8 +239,10 @@ enum norrabist_length {
     NORRABIST_MAX_BODY_LEN = 0xffffff,
     /* the body of a ClientHello up to its tail (RULES 7.9) */
     NORRABIST_MAX_CLIENT_HELLO_LEN = 131396,
-    /* in a record: the body of its first message */
+    /* in a record of type HANDSHAKE: the body of its first message */
     NORRABIST_FIRST_BODY_AT = 9,
+    /* in a heartbeat: the payload */
+    NORRABIST_PAYLOAD_AT = 3,
     /* in a body: the random of a hello */
     NORRABIST_RANDOM_AT = 2,
     /* the session id of a ClientHello or ServerHello */
@@ -264,35 +291,75 @@ norrabist_record_head_told norrabist_parse_tls_record_header(const uint8_t *i, s
    Refuses: INCOMPLETE, TOO_LARGE. */
 norrabist_record_head_told norrabist_parse_tls_raw_record(const uint8_t *i, size_t i_len);
 
-/* A record of type HANDSHAKE and the head of its first message: the record's version and length of
-   the content, which begins at byte RECORD_HEADER_LEN, the message's length of the body, which
-   begins at byte FIRST_BODY_AT, and its type. */
+/* A record that can be opened: version, length of the content, which begins at byte
+   RECORD_HEADER_LEN, and type. Of the type HANDSHAKE also the first message's length of the body,
+   which begins at byte FIRST_BODY_AT, and its type; of the others both are 0, which HELLO_REQUEST
+   is too. */
 typedef struct norrabist_plaintext_head_told {
     uint16_t version;
     uint16_t len;
     uint16_t body;
+    uint8_t record_type;
     uint8_t msg_type;
     uint8_t number;
 } norrabist_plaintext_head_told;
-NORRABIST_HAS_SIZE(norrabist_plaintext_head_told, 8);
+NORRABIST_HAS_SIZE(norrabist_plaintext_head_told, 10);
 
 /* Where the next record begins. */
 static inline size_t norrabist_plaintext_head_next(norrabist_plaintext_head_told told) {
     return (size_t)NORRABIST_RECORD_HEADER_LEN + told.len;
 }
 
-/* The record of type HANDSHAKE at the front, up to its first message's body; the type of that is a
-   listed one. The record is accepted where the reader of the body accepts too, which is also where
-   norrabist_count_messages counts a message in its content. Where the reader of the body refuses,
-   norrabist_refusal with READER_PLAINTEXT tells the record's refusal, COMPLETE for INCOMPLETE.
-   Refuses: INCOMPLETE, TOO_LARGE; ELSEWHERE, SWITCH, of the record's type; COMPLETE, where the
-   first message is not all there, SWITCH, of its type. */
+/* The record at the front. One of the types CHANGE_CIPHER_SPEC, ALERT, APPLICATION_DATA and
+   HEARTBEAT is accepted, with its first message. One of the type HANDSHAKE is read up to its first
+   message's body; the type of that is a listed one. It is accepted where the reader of the body
+   accepts too, which is also where norrabist_count_messages counts a message in its content. Where
+   the reader of the body refuses, norrabist_refusal with READER_PLAINTEXT tells the record's
+   refusal, COMPLETE for INCOMPLETE.
+
+   Behind a ChangeCipherSpec the records of its direction are encrypted as a rule, which no single
+   record shows: norrabist_parse_tls_raw_record takes them.
+   Refuses: INCOMPLETE, TOO_LARGE; SWITCH, of the record's type; COMPLETE, where the first message
+   is not all there, but INCOMPLETE of a heartbeat, LENGTH_VALUE, of its bytes, SWITCH, of its
+   type. */
 norrabist_plaintext_head_told norrabist_parse_tls_plaintext(const uint8_t *i, size_t i_len);
+
+/* A record's content that can be opened: of the type HANDSHAKE the first message's length of the
+   body, which begins at byte MESSAGE_HEAD_LEN, and its type; of the others both are 0. */
+typedef struct norrabist_content_head_told {
+    uint32_t body;
+    uint8_t msg_type;
+    uint8_t number;
+} norrabist_content_head_told;
+NORRABIST_HAS_SIZE(norrabist_content_head_told, 8);
+
+/* All of `content` as the content of a record of that type, read as norrabist_parse_tls_plaintext
+   reads it behind the header. Where the reader of the first message's body refuses,
+   norrabist_refusal tells the refusal, with READER_CONTENT plus the type.
+   Refuses: SWITCH, of the record's type; COMPLETE, where the first message is not all there, but
+   INCOMPLETE of a heartbeat, LENGTH_VALUE, of its bytes, SWITCH, of its type. */
+norrabist_content_head_told norrabist_parse_tls_record_with_header(
+    uint8_t record_type, const uint8_t *content, size_t content_len);
+
+/* Joined records: how many there are, and where reading stopped. */
+typedef struct norrabist_records_told {
+    size_t count;
+    size_t end;
+} norrabist_records_told;
+NORRABIST_HAS_SIZE(norrabist_records_told, 16);
+
+/* Joined records that can be opened, up to the first that is refused. Each begins where the one
+   before it ends; one with bytes in no message is opened, and reading goes on behind it. Where the
+   first is refused, both are 0, and norrabist_refusal with READER_MANY tells the refusal, COMPLETE
+   for INCOMPLETE; why a later one is, which begins at `end`, READER_PLAINTEXT tells of the bytes
+   from there on.
+   Refuses nothing. */
+norrabist_records_told norrabist_tls_parser_many(const uint8_t *i, size_t i_len);
 
 /* ---- Messages ---- */
 
-/* A message's head: where the next message begins, the length of the body, which ends there, and
-   the type, a listed one. */
+/* A handshake message's head: where the next message begins, the length of the body, which ends
+   there, and the type, a listed one. */
 typedef struct norrabist_message_head_told {
     size_t next;
     uint32_t body;
@@ -320,11 +387,64 @@ typedef struct norrabist_tally_told {
 } norrabist_tally_told;
 NORRABIST_HAS_SIZE(norrabist_tally_told, 16);
 
-/* Counts the messages of a record's content from byte `from` on, up to the first that is refused,
-   by its head or by its body. Each begins where the one before it ends, and `end` is `from` where
-   there is none: the bytes from `end` on are dropped.
+/* Counts the handshake messages of a record's content from byte `from` on, up to the first that is
+   refused, by its head or by its body. Each begins where the one before it ends, and `end` is
+   `from` where there is none: the bytes from `end` on are dropped.
    Refuses nothing. */
 norrabist_tally_told norrabist_count_messages(const uint8_t *s, size_t s_len, size_t from);
+
+/* Counts the messages of the content of a record of that type, up to the first that is refused.
+   Each begins where the one before it ends, and `end` is 0 where there is none: the bytes from
+   `end` on are dropped. One of APPLICATION_DATA or HEARTBEAT is all of the content. A type that is
+   none of enum norrabist_record_type has no messages.
+   Refuses nothing. */
+norrabist_tally_told norrabist_count_contents(uint8_t record_type, const uint8_t *s, size_t s_len);
+
+/* Where the alert at a place of a content begins, counted from 0, for places under the count: its
+   level stands there, its description behind that. */
+static inline size_t norrabist_alert_start(size_t place) {
+    return place * NORRABIST_ALERT_LEN;
+}
+
+/* ---- Messages that are not handshake messages (RULES 6) ----
+   Application data has no function: it is all of its record's content, also where that is empty. */
+
+/* The ChangeCipherSpec at the front, one byte. Answers the number.
+   Refuses: INCOMPLETE, then LENGTH_VALUE, where it is not 1. */
+uint8_t norrabist_parse_tls_message_changecipherspec(const uint8_t *i, size_t i_len);
+
+/* An alert: its level, of enum norrabist_severity, and its description, any byte. */
+typedef struct norrabist_alert_told {
+    uint8_t severity;
+    uint8_t code;
+    uint8_t number;
+} norrabist_alert_told;
+NORRABIST_HAS_SIZE(norrabist_alert_told, 3);
+
+/* The alert at the front, ALERT_LEN bytes.
+   Refuses: INCOMPLETE, for the level, LENGTH_VALUE, where that is not 1 or 2, INCOMPLETE, for the
+   description. */
+norrabist_alert_told norrabist_parse_tls_message_alert(const uint8_t *i, size_t i_len);
+
+/* A heartbeat: the length of the payload, which begins at byte PAYLOAD_AT, and the type, of enum
+   norrabist_heartbeat_type. */
+typedef struct norrabist_heartbeat_told {
+    uint16_t payload;
+    uint8_t heartbeat_type;
+    uint8_t number;
+} norrabist_heartbeat_told;
+NORRABIST_HAS_SIZE(norrabist_heartbeat_told, 4);
+
+/* Where the padding begins, which goes to the heartbeat's end. */
+static inline size_t norrabist_heartbeat_padding(norrabist_heartbeat_told told) {
+    return (size_t)NORRABIST_PAYLOAD_AT + told.payload;
+}
+
+/* The heartbeat that the first `len` bytes of `i` are; of a record, `len` is that of its content.
+   Refuses: INCOMPLETE, where there are fewer than `len` bytes, or `len` is under PAYLOAD_AT; then
+   LENGTH_VALUE, where the type is not 1 or 2, or the payload leaves under MIN_PADDING_LEN bytes. */
+norrabist_heartbeat_told norrabist_parse_tls_message_heartbeat(
+    const uint8_t *i, size_t i_len, uint16_t len);
 
 /* ---- Bodies of hellos ---- */
 
@@ -620,7 +740,8 @@ NORRABIST_HAS_SIZE(norrabist_refusal_told, 1);
    for the way that is taken often: it reads again. `reader` is a type of enum norrabist_kind, for
    the reader of such a body, where `n` is the body's length (looked at for NEW_SESSION_TICKET and
    the kinds of norrabist_take_body; give `i_len`), or one of enum norrabist_reader, where `n` is
-   the byte at which the message of READER_MESSAGE or READER_WALK begins, and 0 else.
+   the byte at which the message of READER_MESSAGE or READER_WALK begins, the length that
+   READER_HEARTBEAT is handed, modulo 2^16, and 0 else.
    Refuses: what that reader does; NO_SUCH of READER_WALK for whatever refusal; SWITCH, for a type
    that is not listed and any other number. */
 norrabist_refusal_told norrabist_refusal(
@@ -677,13 +798,22 @@ norrabist_wrote norrabist_gen_tls_hellorequest(uint8_t *out, size_t out_len);
 norrabist_wrote norrabist_gen_tls_finished(
     const uint8_t *part, size_t part_len, uint8_t *out, size_t out_len);
 
+/* A ChangeCipherSpec: the byte 01.
+   Refuses: NO_ROOM. */
+norrabist_wrote norrabist_gen_tls_changecipherspec(uint8_t *out, size_t out_len);
+
+/* An alert: its level, of enum norrabist_severity, and its description.
+   Refuses: BAD_LENGTH, for any other level; then NO_ROOM. */
+norrabist_wrote norrabist_gen_tls_alert(
+    uint8_t severity, uint8_t code, uint8_t *out, size_t out_len);
+
 /* A record of that type and version round `msg`, which is not opened.
    Refuses: TOO_LARGE, over MAX_RECORD_LEN; then NO_ROOM. */
 norrabist_wrote norrabist_gen_tls_plaintext(
     uint8_t record_type, uint16_t version, const uint8_t *msg, size_t msg_len, uint8_t *out,
     size_t out_len);
 
-/* Whether messages of a kind (enum norrabist_kind) are written. Answers the number.
+/* Whether handshake messages of a kind (enum norrabist_kind) are written. Answers the number.
    Refuses: NOT_YET_IMPLEMENTED. */
 uint8_t norrabist_kind_written(uint16_t kind);
 

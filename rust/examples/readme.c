@@ -17,7 +17,7 @@ int main(void) {
         norrabist_record_head_told whole = norrabist_parse_tls_raw_record(left, end - left);
         norrabist_plaintext_head_told record = norrabist_parse_tls_plaintext(left, end - left);
         if (record.number != NORRABIST_ACCEPTED)
-            printf("refused: %s\n", norrabist_reason_name(record.number)); /* "Elsewhere", .. */
+            printf("refused: %s\n", norrabist_reason_name(record.number)); /* "Complete", .. */
         else if (record.msg_type == NORRABIST_CLIENT_HELLO)
             client_hello(left + NORRABIST_FIRST_BODY_AT, record.body);
         left = whole.number == NORRABIST_ACCEPTED ? left + norrabist_record_head_next(whole) : end;

@@ -7,7 +7,7 @@ fn main() -> Result<(), Box<dyn std::error::Error>> {
     while !left.is_empty() {
         match parse_tls_plaintext(left) {
             Ok((_, record)) => record.msg.iter().for_each(|message| show(&message)),
-            Err(refusal) => println!("refused: {:?}", refusal.reason), // Reason::Elsewhere, ..
+            Err(refusal) => println!("refused: {:?}", refusal.reason), // Reason::Complete, ..
         }
         left = parse_tls_raw_record(left)?.0; // a record that is refused may still be whole
     }

@@ -2,6 +2,8 @@
  * Prints the records and messages of joined records, as they are on the wire: of each message its
  * type, of a ClientHello its ciphers too; a refusal by its name. `records.rs` prints the same.
  *
+ * Each record is read as plaintext, also one that is encrypted, which none of them shows.
+ *
  *     cc -I rust rust/examples/records.c target/native/libnorrabist_c.a -o records
  *     ./records crates/look/handshake
  *     ./records < crates/look/handshake
@@ -63,8 +65,8 @@ static void client_hello(const uint8_t *body, size_t body_len) {
         printf("\n    extensions absent, and %zu bytes follow\n", tail);
 }
 
-/* The messages of a content up to `end`, each of which opens. */
-static void messages(const uint8_t *content, size_t end) {
+/* The handshake messages of a content up to `end`, each of which opens. */
+static void handshakes(const uint8_t *content, size_t end) {
     size_t at = 0;
 
     while (at < end) {
@@ -76,6 +78,37 @@ static void messages(const uint8_t *content, size_t end) {
     }
 }
 
+/* The messages of a content by the type of its record, each of which opens. */
+static void messages(uint8_t record_type, const uint8_t *content, norrabist_tally_told tally) {
+    norrabist_heartbeat_told heartbeat;
+    size_t place;
+
+    switch (record_type) {
+    case NORRABIST_HANDSHAKE:
+        handshakes(content, tally.end);
+        break;
+    case NORRABIST_CHANGE_CIPHER_SPEC:
+        for (place = 0; place < tally.count; place++)
+            puts("  ChangeCipherSpec");
+        break;
+    case NORRABIST_ALERT:
+        for (place = 0; place < tally.count; place++) {
+            const uint8_t *alert = content + norrabist_alert_start(place);
+            printf("  Alert, level %u, description %u\n", (unsigned)alert[0], (unsigned)alert[1]);
+        }
+        break;
+    case NORRABIST_APPLICATION_DATA:
+        printf("  ApplicationData, %zu bytes\n", tally.end);
+        break;
+    case NORRABIST_HEARTBEAT:
+        heartbeat = norrabist_parse_tls_message_heartbeat(content, tally.end, (uint16_t)tally.end);
+        printf("  Heartbeat, type %u, %u bytes, padding %zu\n",
+               (unsigned)heartbeat.heartbeat_type, (unsigned)heartbeat.payload,
+               tally.end - norrabist_heartbeat_padding(heartbeat));
+        break;
+    }
+}
+
 /* The record at the front of `left`: what it is as plaintext, or its refusal. */
 static void record(const uint8_t *left, size_t left_len) {
     norrabist_plaintext_head_told head = norrabist_parse_tls_plaintext(left, left_len);
@@ -84,8 +117,8 @@ static void record(const uint8_t *left, size_t left_len) {
     uint8_t number = head.number;
 
     if (number == NORRABIST_ACCEPTED) {
-        tally = norrabist_count_messages(content, head.len, 0);
-        /* the first message's body may be refused yet */
+        tally = norrabist_count_contents(head.record_type, content, head.len);
+        /* the body of a first handshake message may be refused yet */
         if (tally.count == 0)
             number = norrabist_refusal(NORRABIST_READER_PLAINTEXT, left, left_len, 0).number;
     }
@@ -95,7 +128,7 @@ static void record(const uint8_t *left, size_t left_len) {
     }
     printf("version %04x, %u bytes, %zu messages, %zu bytes dropped\n", (unsigned)head.version,
            (unsigned)head.len, tally.count, head.len - tally.end);
-    messages(content, tally.end);
+    messages(head.record_type, content, tally);
 }
 
 /* The records of joined bytes, one behind the other. */

@@ -1,12 +1,15 @@
 //! Prints the records and messages of joined records, as they are on the wire: of each message its
 //! type, of a ClientHello its ciphers too; a refusal by its name. `records.c` prints the same.
 //!
+//! Each record is read as plaintext, also one that is encrypted, which none of them shows:
+//! `parse_tls_plaintext` has the loop for the records of one direction.
+//!
 //!     cargo run --example records -- FILE
 //!     cargo run --example records < FILE
 //!     cargo run --example records -- --sample    (a ClientHello whose extension block is cut off)
 
 use norrabist::{parse_tls_plaintext, parse_tls_raw_record};
-use norrabist::{TlsClientHelloContents, TlsMessageHandshake, TlsPlaintext};
+use norrabist::{TlsClientHelloContents, TlsMessage, TlsMessageHandshake, TlsPlaintext};
 use std::io::{stdin, IsTerminal, Read};
 use std::process::ExitCode;
 
@@ -91,6 +94,22 @@ fn show(record: &TlsPlaintext) {
         println!("  {}, {} bytes", head.kind, head.body.len());
         if let TlsMessageHandshake::ClientHello(hello) = message {
             client_hello(&hello);
+        }
+    }
+    record.msg.iter().for_each(other);
+}
+
+fn other(message: TlsMessage) {
+    match message {
+        TlsMessage::Handshake(_) => {} // it has a head
+        TlsMessage::ChangeCipherSpec => println!("  ChangeCipherSpec"),
+        TlsMessage::Alert(alert) => {
+            println!("  Alert, level {}, description {}", alert.severity.0, alert.code.0)
+        }
+        TlsMessage::ApplicationData(data) => println!("  ApplicationData, {} bytes", data.blob.len()),
+        TlsMessage::Heartbeat(heartbeat) => {
+            let (payload, padding) = (heartbeat.payload_len, heartbeat.padding.len());
+            println!("  Heartbeat, type {}, {payload} bytes, padding {padding}", heartbeat.heartbeat_type.0)
         }
     }
 }

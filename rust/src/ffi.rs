@@ -15,8 +15,14 @@ extern "C" {
     fn norrabist_parse_tls_record_header(i: *const u8, i_len: usize) -> RecordHeadTold;
     fn norrabist_parse_tls_raw_record(i: *const u8, i_len: usize) -> RecordHeadTold;
     fn norrabist_parse_tls_plaintext(i: *const u8, i_len: usize) -> PlaintextHeadTold;
+    fn norrabist_parse_tls_record_with_header(record_type: u8, content: *const u8, content_len: usize) -> ContentHeadTold;
+    fn norrabist_tls_parser_many(i: *const u8, i_len: usize) -> RecordsTold;
     fn norrabist_parse_tls_message_head(s: *const u8, s_len: usize, at: usize) -> MessageHeadTold;
     fn norrabist_count_messages(s: *const u8, s_len: usize, from: usize) -> TallyTold;
+    fn norrabist_count_contents(record_type: u8, s: *const u8, s_len: usize) -> TallyTold;
+    fn norrabist_parse_tls_message_changecipherspec(i: *const u8, i_len: usize) -> u8;
+    fn norrabist_parse_tls_message_alert(i: *const u8, i_len: usize) -> AlertTold;
+    fn norrabist_parse_tls_message_heartbeat(i: *const u8, i_len: usize, len: u16) -> HeartbeatTold;
     fn norrabist_parse_tls_handshake_client_hello(i: *const u8, i_len: usize) -> ClientHelloTold;
     fn norrabist_parse_tls_handshake_server_hello(i: *const u8, i_len: usize) -> ServerHelloTold;
     fn norrabist_parse_tls_handshake_msg_server_hello(i: *const u8, i_len: usize) -> ServerHelloTold;
@@ -38,6 +44,8 @@ extern "C" {
     fn norrabist_gen_tls_clientkeyexchange(form: u8, part: *const u8, part_len: usize, out: *mut u8, out_len: usize) -> Wrote;
     fn norrabist_gen_tls_hellorequest(out: *mut u8, out_len: usize) -> Wrote;
     fn norrabist_gen_tls_finished(part: *const u8, part_len: usize, out: *mut u8, out_len: usize) -> Wrote;
+    fn norrabist_gen_tls_changecipherspec(out: *mut u8, out_len: usize) -> Wrote;
+    fn norrabist_gen_tls_alert(severity: u8, code: u8, out: *mut u8, out_len: usize) -> Wrote;
     fn norrabist_gen_tls_plaintext(record_type: u8, version: u16, msg: *const u8, msg_len: usize, out: *mut u8, out_len: usize) -> Wrote;
     fn norrabist_kind_written(kind: u16) -> u8;
 }
@@ -73,12 +81,25 @@ safe! {
     record_header(i: bytes) -> RecordHeadTold = norrabist_parse_tls_record_header;
     /// A record of any type.
     raw_record(i: bytes) -> RecordHeadTold = norrabist_parse_tls_raw_record;
-    /// A handshake record up to its first message's body.
+    /// A record that can be opened; a handshake record up to its first message's body.
     plaintext(i: bytes) -> PlaintextHeadTold = norrabist_parse_tls_plaintext;
+    /// The content of a record of that type, the same way.
+    record_with_header(record_type: u8, content: bytes) -> ContentHeadTold
+        = norrabist_parse_tls_record_with_header;
+    /// How many joined records there are, and where reading stopped.
+    many_records(i: bytes) -> RecordsTold = norrabist_tls_parser_many;
     /// The head of the message that begins at `at`.
     message_head(s: bytes, at: usize) -> MessageHeadTold = norrabist_parse_tls_message_head;
-    /// How many messages there are from a byte on, and where the last one ends.
+    /// How many handshake messages there are from a byte on, and where the last one ends.
     count_messages(s: bytes, from: usize) -> TallyTold = norrabist_count_messages;
+    /// How many messages the content of a record of that type has, and where the last one ends.
+    count_contents(record_type: u8, s: bytes) -> TallyTold = norrabist_count_contents;
+    /// Whether a ChangeCipherSpec is at the front, by the table's number.
+    change_cipher_spec(i: bytes) -> u8 = norrabist_parse_tls_message_changecipherspec;
+    /// The alert at the front.
+    alert(i: bytes) -> AlertTold = norrabist_parse_tls_message_alert;
+    /// The heartbeat that the first `len` bytes are.
+    heartbeat(i: bytes, len: u16) -> HeartbeatTold = norrabist_parse_tls_message_heartbeat;
     /// The body of a ClientHello.
     client_hello(i: bytes) -> ClientHelloTold = norrabist_parse_tls_handshake_client_hello;
     /// The body of a ServerHello, but not of draft 18.
@@ -131,6 +152,10 @@ safe! {
     write_hello_request(out: output) -> Wrote = norrabist_gen_tls_hellorequest;
     /// Writes a Finished.
     write_finished(part: bytes, out: output) -> Wrote = norrabist_gen_tls_finished;
+    /// Writes a ChangeCipherSpec.
+    write_change_cipher_spec(out: output) -> Wrote = norrabist_gen_tls_changecipherspec;
+    /// Writes an alert.
+    write_alert(severity: u8, code: u8, out: output) -> Wrote = norrabist_gen_tls_alert;
     /// Writes a record round messages.
     write_record(record_type: u8, version: u16, msg: bytes, out: output) -> Wrote
         = norrabist_gen_tls_plaintext;

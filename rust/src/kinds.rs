@@ -43,27 +43,16 @@ macro_rules! kinds {
             }
         }
 
-        /// A message as it was told: its kind, and what the reader of its body tells. The value is
+        /// A message as it was told: its type, and what the reader of its body tells. The value is
         /// made when it is looked at.
         #[derive(Clone, Copy)]
-        #[repr(u8)]
-        pub(crate) enum Told {
-            $($nothing = $nothing_type,)*
-            $($body = $body_type,)*
-            $($kind(ffi::kept::$told) = $kind_type,)*
-            $($one(ffi::kept::$shared_told) = $shared_type,)*
-        }
+        pub(crate) struct Told(ffi::Kept);
 
         impl Told {
             /// The type that the message has on the wire.
             #[inline(always)]
             pub fn handshake_type(self) -> TlsHandshakeType {
-                match self {
-                    $(Told::$nothing => TlsHandshakeType::$nothing,)*
-                    $(Told::$body => TlsHandshakeType::$body,)*
-                    $(Told::$kind(_) => TlsHandshakeType::$kind,)*
-                    $(Told::$one(_) => TlsHandshakeType::$one,)*
-                }
+                TlsHandshakeType(self.0.msg_type)
             }
 
             /// What is told of a body by its [`met`] type; none where the head or the body is
@@ -71,21 +60,21 @@ macro_rules! kinds {
             #[inline(always)]
             pub fn of(met: u16, body: &[u8]) -> Option<Told> {
                 Some(match met {
-                    $($nothing_type => Told::$nothing,)*
-                    $($body_type => Told::$body,)*
+                    $($nothing_type => Told(ffi::Kept::nothing($nothing_type)),)*
+                    $($body_type => Told(ffi::Kept::nothing($body_type)),)*
                     $($kind_type => {
                         let told = ffi::$read(body);
                         if told.number != 0 {
                             return None;
                         }
-                        Told::$kind(ffi::kept::$told::keep(told))
+                        Told(told.keep($kind_type))
                     })*
                     $($shared_type => {
                         let told = ffi::$shared(body);
                         if told.number != 0 {
                             return None;
                         }
-                        Told::$one(ffi::kept::$shared_told::keep(told))
+                        Told(told.keep($shared_type))
                     })*
                     // no other type is listed
                     _ => return None,
@@ -99,23 +88,29 @@ macro_rules! kinds {
             /// so again.
             #[inline(always)]
             pub fn hand_on<'a, B, T: Then<'a, B>>(self, body: &'a [u8], so_far: B, then: T) -> T::Answer {
-                match self {
-                    $(Told::$nothing => then.then(so_far, TlsMessageHandshake::$nothing),)*
-                    $(Told::$body => then.then(so_far, TlsMessageHandshake::$body(Whole::whole(body))),)*
-                    $(Told::$kind(told) => match told::$read(told.told(), body) {
+                match self.0.msg_type {
+                    $($nothing_type => then.then(so_far, TlsMessageHandshake::$nothing),)*
+                    $($body_type => then.then(so_far, TlsMessageHandshake::$body(Whole::whole(body))),)*
+                    $($kind_type => match told::$read(ffi::$told::told(self.0), body) {
                         Some((_, contents)) => then.then(so_far, TlsMessageHandshake::$kind(contents)),
                         None => T::outside(so_far),
                     })*
-                    $(Told::$one(told) if told.version == TlsVersion::$version.0 => {
-                        match told::$other_value(told.told(), body) {
-                            Some((_, contents)) => then.then(so_far, TlsMessageHandshake::$other(contents)),
-                            None => T::outside(so_far),
+                    $($shared_type => {
+                        let told = ffi::$shared_told::told(self.0);
+                        if told.version == TlsVersion::$version.0 {
+                            match told::$other_value(told, body) {
+                                Some((_, contents)) => then.then(so_far, TlsMessageHandshake::$other(contents)),
+                                None => T::outside(so_far),
+                            }
+                        } else {
+                            match told::$one_value(told, body) {
+                                Some((_, contents)) => then.then(so_far, TlsMessageHandshake::$one(contents)),
+                                None => T::outside(so_far),
+                            }
                         }
-                    }
-                    Told::$one(told) => match told::$one_value(told.told(), body) {
-                        Some((_, contents)) => then.then(so_far, TlsMessageHandshake::$one(contents)),
-                        None => T::outside(so_far),
                     })*
+                    // no other type is told
+                    _ => T::outside(so_far),
                 }
             }
 

@@ -6,8 +6,9 @@
 //! never panics. What is read is a part of the caller's bytes; nothing is copied.
 //!
 //! A reader gives the rest of the bytes and the value ([`Read`]). Where tls-parser has a `Vec`
-//! there is a [`List`]. A hello also has a `tail`, what follows it: where its extensions are
-//! absent, the tail may be a block that was cut off.
+//! there is a [`List`], of messages [`TlsMessages`] and of records [`TlsRecords`]. A hello also has
+//! a `tail`, what follows it: where its extensions are absent, the tail may be a block that was cut
+//! off.
 //!
 //! ```
 //! use norrabist::{parse_tls_plaintext, TlsMessage, TlsMessageHandshake, TlsVersion};
@@ -29,6 +30,39 @@
 //!     assert_eq!(hello.tail, [0, 5]);
 //! }
 //! # Ok::<(), norrabist::Refusal>(())
+//! ```
+//!
+//! After a ChangeCipherSpec the handshake messages, alerts and heartbeats of that direction are as a
+//! rule encrypted, and no reader can see that from one record. A loop over the records of one
+//! direction minds it, and takes those behind it with [`parse_tls_encrypted`].
+//!
+//! ```
+//! use norrabist::{parse_tls_encrypted, parse_tls_plaintext, Refusal, TlsMessage};
+//!
+//! /// How many messages one side sends in the clear, and how many encrypted records.
+//! fn sent(mut left: &[u8]) -> Result<(usize, usize), Refusal> {
+//!     let (mut messages, mut encrypted, mut changed) = (0, 0, false);
+//!     while !left.is_empty() {
+//!         if changed {
+//!             left = parse_tls_encrypted(left)?.0;
+//!             encrypted += 1;
+//!             continue;
+//!         }
+//!         let (rest, record) = parse_tls_plaintext(left)?;
+//!         for message in &record.msg {
+//!             messages += 1;
+//!             changed |= message == TlsMessage::ChangeCipherSpec;
+//!         }
+//!         left = rest;
+//!     }
+//!     Ok((messages, encrypted))
+//! }
+//!
+//! // a ChangeCipherSpec, and a Finished that is encrypted by AES-GCM: it begins with eight zero
+//! // bytes, and would read as two HelloRequests
+//! let finished = [&[0x16, 3, 3, 0, 40][..], &[0; 8], &[0x5a; 32]].concat();
+//! let bytes = [&[0x14, 3, 3, 0, 1, 1][..], &finished].concat();
+//! assert_eq!(sent(&bytes), Ok((1, 1)));
 //! ```
 //!
 //! A writer fills a lent output, and changes none of it where it refuses.
@@ -64,6 +98,7 @@ extern crate alloc;
 extern crate std;
 
 mod ciphers;
+mod content;
 mod ffi;
 mod handshake;
 mod kinds;
@@ -72,20 +107,24 @@ mod message;
 mod messages;
 mod newtypes;
 mod record;
+mod records;
 mod refusal;
 #[cfg(feature = "alloc")]
 mod serialize;
 mod table;
 mod text;
 mod told;
+mod views;
 mod write;
 
 pub use ciphers::*;
+pub use content::*;
 pub use handshake::*;
 pub use lists::{Fixed, Item, List, Parts, Refs, Values};
 pub use message::*;
 pub use messages::{record_walk_next, Handshakes, Heads, Messages, TlsMessageHead, TlsMessages};
 pub use record::*;
+pub use records::{tls_parser_many, Records, TlsRecords};
 pub use refusal::{Reason, Refusal};
 #[cfg(feature = "alloc")]
 pub use serialize::{GenError, Serialize};

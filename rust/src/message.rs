@@ -3,6 +3,7 @@
 //! The functions of bodies are given a body alone, without type and length, and hand back what they
 //! leave over.
 
+use crate::content::TlsMessage;
 use crate::ffi::{self, cut};
 use crate::handshake::*;
 use crate::refusal::refused;

@@ -1,17 +1,20 @@
 //! The messages of a record's content, one after the other (RULES 6).
 
-use crate::ffi::{count_messages, message_head, part};
-use crate::handshake::{TlsMessage, TlsMessageHandshake};
+use crate::content::{alert, whole_heartbeat, TlsMessage, TlsMessageApplicationData};
+use crate::ffi::{count_contents, count_messages, message_head, part, TallyTold};
+use crate::handshake::TlsMessageHandshake;
 use crate::refusal::{refused, Refusal};
-use crate::table::{met, reader, TlsHandshakeType, Told, MESSAGE_HEAD_LEN};
+use crate::table::{met, reader, TlsHandshakeType, TlsRecordType, Told};
+use crate::table::{ALERT_LEN, CHANGE_CIPHER_SPEC_LEN, MESSAGE_HEAD_LEN};
+use crate::views::view;
 #[cfg(feature = "alloc")]
 use alloc::vec::Vec;
-use core::fmt;
 use core::iter::FusedIterator;
 
 /// The messages of a record's content, until one is refused; where tls-parser has a `Vec`.
 ///
-/// A message is opened when it is handed out, and handed out by value.
+/// A message is opened when it is handed out, and handed out by value. All of them are of the kind
+/// that the type of the record says.
 ///
 /// ```
 /// use norrabist::{TlsMessage, TlsMessageHandshake, TlsMessages};
@@ -26,23 +29,45 @@ use core::iter::FusedIterator;
 #[derive(Clone, Copy)]
 pub struct TlsMessages<'a> {
     content: &'a [u8],
-    /// The first message, as the record's reader told it.
+    /// The first message, as the record's reader told it, where it is a handshake message.
     first: Option<Told>,
     /// Where the messages that are not told begin.
     at: usize,
+    record_type: TlsRecordType,
 }
 
 impl<'a> TlsMessages<'a> {
-    /// The messages that these bytes hold.
+    /// The handshake messages that these bytes hold.
     #[inline]
     pub const fn new(content: &'a [u8]) -> Self {
-        TlsMessages { content, first: None, at: 0 }
+        TlsMessages::of(TlsRecordType::Handshake, content)
     }
 
-    /// The messages of a record: the first was told, and ends at `at`.
+    /// The messages that these bytes hold, as the content of a record of that type. A type that is
+    /// not listed has none.
+    ///
+    /// ```
+    /// use norrabist::{TlsMessage, TlsMessages, TlsRecordType};
+    ///
+    /// let messages = TlsMessages::of(TlsRecordType::ChangeCipherSpec, &[1, 1, 0]);
+    /// assert_eq!(messages, [TlsMessage::ChangeCipherSpec; 2]);
+    /// assert_eq!(messages.dropped(), 1);
+    /// ```
+    #[inline]
+    pub const fn of(record_type: TlsRecordType, content: &'a [u8]) -> Self {
+        TlsMessages { content, first: None, at: 0, record_type }
+    }
+
+    /// The messages of a handshake record: the first was told, and ends at `at`.
     #[inline(always)]
     pub(crate) fn opened(content: &'a [u8], first: Told, at: usize) -> Self {
-        TlsMessages { content, first: Some(first), at }
+        TlsMessages { content, first: Some(first), at, record_type: TlsRecordType::Handshake }
+    }
+
+    /// The type of the record.
+    #[inline]
+    pub const fn record_type(&self) -> TlsRecordType {
+        self.record_type
     }
 
     /// The content of the record.
@@ -51,38 +76,55 @@ impl<'a> TlsMessages<'a> {
         self.content
     }
 
-    /// How many messages there are, by a walk over them.
-    pub fn len(&self) -> usize {
-        count_messages(self.content, 0).count
+    /// How many messages there are, and where the last one ends.
+    fn tally(&self) -> TallyTold {
+        if is_handshake(self.record_type) {
+            return count_messages(self.content, 0);
+        }
+        count_contents(self.record_type.0, self.content)
     }
 
-    /// How many bytes behind the last message are in none.
-    pub(crate) fn dropped(&self) -> usize {
-        self.content.len().saturating_sub(count_messages(self.content, 0).end)
+    /// How many messages there are, by a walk over them.
+    pub fn len(&self) -> usize {
+        self.tally().count
+    }
+
+    /// How many bytes behind the last message are in none, by a walk over the messages.
+    pub fn dropped(&self) -> usize {
+        self.content.len().saturating_sub(self.tally().end)
     }
 
     /// Whether there is no message.
     #[inline]
     pub fn is_empty(&self) -> bool {
-        self.first.is_none() && self.heads().next().is_none()
+        self.first.is_none() && self.iter().next().is_none()
     }
 
-    /// The messages in their order.
+    /// The messages in their order. Those of a record that is no handshake record are counted first.
     #[inline]
     pub fn iter(&self) -> Messages<'a> {
-        Messages { handshakes: self.handshakes() }
+        let mut messages = Messages { handshakes: self.handshakes(), record_type: self.record_type };
+        if !is_handshake(self.record_type) {
+            // they stand one behind the other, up to the end of the last
+            let end = count_contents(self.record_type.0, self.content).end;
+            messages.handshakes.walk.content = part(self.content, 0, end).unwrap_or(&[]);
+        }
+        messages
     }
 
-    /// The handshake messages in their order: all that a handshake record has.
+    /// The handshake messages in their order: all that a handshake record has, and none of any
+    /// other.
     #[inline]
     pub fn handshakes(&self) -> Handshakes<'a> {
-        Handshakes { first: self.first, walk: Walk { content: self.content, at: self.at } }
+        let content = if is_handshake(self.record_type) { self.content } else { &[] };
+        Handshakes { first: self.first, walk: Walk { content, at: self.at } }
     }
 
-    /// The messages by their types and bodies.
+    /// The handshake messages by their types and bodies.
     #[inline]
     pub fn heads(&self) -> Heads<'a> {
-        Heads { walk: Walk { content: self.content, at: 0 } }
+        let content = if is_handshake(self.record_type) { self.content } else { &[] };
+        Heads { walk: Walk { content, at: 0 } }
     }
 
     /// The first message.
@@ -110,73 +152,20 @@ impl<'a> TlsMessages<'a> {
     }
 }
 
-#[cfg(feature = "alloc")]
-impl<'a> From<TlsMessages<'a>> for Vec<TlsMessage<'a>> {
-    fn from(messages: TlsMessages<'a>) -> Self {
-        messages.to_vec()
+view!(TlsMessages of TlsMessage by Messages, "messages");
+
+/// Whether a record has handshake messages. No is marked as the answer that is seldom given: what
+/// goes over handshake messages is then compiled as if there were no others.
+#[inline(always)]
+pub(crate) fn is_handshake(record_type: TlsRecordType) -> bool {
+    #[cold]
+    fn seldom() {}
+
+    if record_type != TlsRecordType::Handshake {
+        seldom();
+        return false;
     }
-}
-
-impl<'a> IntoIterator for &TlsMessages<'a> {
-    type Item = TlsMessage<'a>;
-    type IntoIter = Messages<'a>;
-
-    #[inline]
-    fn into_iter(self) -> Messages<'a> {
-        self.iter()
-    }
-}
-
-impl<'a> IntoIterator for TlsMessages<'a> {
-    type Item = TlsMessage<'a>;
-    type IntoIter = Messages<'a>;
-
-    #[inline]
-    fn into_iter(self) -> Messages<'a> {
-        self.iter()
-    }
-}
-
-impl fmt::Debug for TlsMessages<'_> {
-    fn fmt(&self, f: &mut fmt::Formatter) -> fmt::Result {
-        f.debug_list().entries(self).finish()
-    }
-}
-
-/// Equal where the messages are.
-impl PartialEq for TlsMessages<'_> {
-    fn eq(&self, other: &Self) -> bool {
-        self.handshakes().eq(other.handshakes())
-    }
-}
-
-/// Equality with what is a slice of messages.
-macro_rules! equal {
-    ($($(#[$when:meta])* [$($n:tt)*] $of:ty;)*) => {$(
-        /// Equal where the messages are.
-        $(#[$when])*
-        impl<'a, $($n)*> PartialEq<$of> for TlsMessages<'a> {
-            fn eq(&self, other: &$of) -> bool {
-                self.iter().eq(other.iter().copied())
-            }
-        }
-
-        /// Equal where the messages are.
-        $(#[$when])*
-        impl<'a, $($n)*> PartialEq<TlsMessages<'a>> for $of {
-            fn eq(&self, other: &TlsMessages<'a>) -> bool {
-                other == self
-            }
-        }
-    )*};
-}
-
-equal! {
-    [] [TlsMessage<'a>];
-    [] &[TlsMessage<'a>];
-    [const N: usize] [TlsMessage<'a>; N];
-    #[cfg(feature = "alloc")]
-    [] Vec<TlsMessage<'a>>;
+    true
 }
 
 /// What is done with a message that is handed on.
@@ -225,7 +214,7 @@ impl<'a, B, F: FnMut(B, TlsMessageHandshake<'a>) -> B> Then<'a, B> for Fold<'_, 
     }
 }
 
-/// A message that is not opened: only messages that can be are handed out.
+/// A handshake message that is not opened: only messages that can be are handed out.
 #[derive(Clone, Copy, Debug, PartialEq)]
 pub struct TlsMessageHead<'a> {
     /// The type.
@@ -268,7 +257,7 @@ impl<'a> Walk<'a> {
     }
 }
 
-/// Hands out messages that are not opened.
+/// Hands out handshake messages that are not opened.
 #[derive(Clone)]
 pub struct Heads<'a> {
     walk: Walk<'a>,
@@ -358,10 +347,53 @@ impl<'a> Iterator for Handshakes<'a> {
 
 impl FusedIterator for Handshakes<'_> {}
 
+/// Hands out messages that are not handshake messages, by where they lie. The content ends with the
+/// last of them.
+#[derive(Clone, Copy)]
+struct Others<'a> {
+    record_type: TlsRecordType,
+    walk: Walk<'a>,
+}
+
+impl<'a> Iterator for Others<'a> {
+    type Item = TlsMessage<'a>;
+
+    #[inline(always)]
+    fn next(&mut self) -> Option<TlsMessage<'a>> {
+        let Walk { content, at } = self.walk;
+        let (message, len) = match self.record_type {
+            TlsRecordType::ChangeCipherSpec if at < content.len() => {
+                (TlsMessage::ChangeCipherSpec, CHANGE_CIPHER_SPEC_LEN)
+            }
+            TlsRecordType::Alert => {
+                let [severity, code, ..] = *content.get(at..)? else { return None };
+                (alert(severity, code), ALERT_LEN)
+            }
+            // one message, all of the content
+            TlsRecordType::ApplicationData if at == 0 => {
+                (TlsMessage::ApplicationData(TlsMessageApplicationData { blob: content }), 1)
+            }
+            TlsRecordType::Heartbeat if at == 0 => (whole_heartbeat(content)?, 1),
+            _ => return None,
+        };
+        self.walk.at += len as usize;
+        Some(message)
+    }
+}
+
 /// Hands out messages.
 #[derive(Clone)]
 pub struct Messages<'a> {
     handshakes: Handshakes<'a>,
+    record_type: TlsRecordType,
+}
+
+impl<'a> Messages<'a> {
+    /// The same, where they are not handshake messages.
+    #[inline(always)]
+    fn others(&self) -> Others<'a> {
+        Others { record_type: self.record_type, walk: self.handshakes.walk }
+    }
 }
 
 impl<'a> Iterator for Messages<'a> {
@@ -369,24 +401,36 @@ impl<'a> Iterator for Messages<'a> {
 
     #[inline(always)]
     fn next(&mut self) -> Option<TlsMessage<'a>> {
-        self.handshakes.next().map(TlsMessage::Handshake)
+        if is_handshake(self.record_type) {
+            return self.handshakes.next().map(TlsMessage::Handshake);
+        }
+        let mut others = self.others();
+        let message = others.next();
+        self.handshakes.walk = others.walk;
+        message
     }
 
     #[inline]
     fn fold<B, F: FnMut(B, Self::Item) -> B>(self, start: B, mut f: F) -> B {
-        self.handshakes.fold(start, |folded, message| f(folded, TlsMessage::Handshake(message)))
+        if is_handshake(self.record_type) {
+            return self.handshakes.fold(start, |folded, message| f(folded, TlsMessage::Handshake(message)));
+        }
+        self.others().fold(start, f)
     }
 
     #[inline]
     fn count(self) -> usize {
-        self.handshakes.count()
+        if is_handshake(self.record_type) {
+            return self.handshakes.count();
+        }
+        self.others().count()
     }
 }
 
 impl FusedIterator for Messages<'_> {}
 
-/// The message that begins at byte `at` of a record's content, and the byte at which the next one
-/// begins.
+/// The handshake message that begins at byte `at` of a record's content, and the byte at which the
+/// next one begins.
 ///
 /// # Errors
 ///

@@ -1,5 +1,6 @@
 //! Writing into a `Vec`, by the trait of tls-parser.
 
+use crate::content::{TlsMessage, TlsMessageAlert};
 use crate::handshake::*;
 use crate::record::TlsPlaintext;
 use crate::refusal::Refusal;
@@ -40,8 +41,8 @@ fn written(write: impl FnOnce(&mut Vec<u8>) -> Result<usize, Refusal>) -> Result
 
 /// Makes `Serialize` of the form of a writer that fills a `Vec`.
 macro_rules! serialized {
-    ($($t:ident: |$v:ident, $text:ident| $write:expr;)*) => {$(
-        impl Serialize<Vec<u8>> for $t<'_> {
+    ($($t:ident$(<$a:lifetime>)?: |$v:ident, $text:ident| $write:expr;)*) => {$(
+        impl Serialize<Vec<u8>> for $t$(<$a>)? {
             type Error = GenError;
 
             fn serialize(&self) -> Result<Vec<u8>, GenError> {
@@ -53,30 +54,29 @@ macro_rules! serialized {
 }
 
 serialized! {
-    TlsMessageHandshake: |m, text| gen_tls_messagehandshake_vec(m, text);
-    TlsMessage: |m, text| match m {
-        TlsMessage::Handshake(m) => gen_tls_messagehandshake_vec(m, text),
-    };
-    TlsClientHelloContents: |m, text| gen_tls_clienthello_vec(m, text);
-    TlsServerHelloContents: |m, text| gen_tls_serverhello_vec(m, text);
-    TlsServerHelloV13Draft18Contents: |m, text| gen_tls_serverhellodraft18_vec(m, text);
-    TlsClientKeyExchangeContents: |m, text| gen_tls_clientkeyexchange_vec(m, text);
-    TlsPlaintext: |record, text| gen_tls_plaintext_vec(&record.hdr, &content(record)?, text);
+    TlsMessageHandshake<'_>: |m, text| gen_tls_messagehandshake_vec(m, text);
+    TlsMessageAlert: |m, text| gen_tls_alert_vec(m, text);
+    TlsMessage<'_>: |m, text| gen_tls_message_vec(m, text);
+    TlsClientHelloContents<'_>: |m, text| gen_tls_clienthello_vec(m, text);
+    TlsServerHelloContents<'_>: |m, text| gen_tls_serverhello_vec(m, text);
+    TlsServerHelloV13Draft18Contents<'_>: |m, text| gen_tls_serverhellodraft18_vec(m, text);
+    TlsClientKeyExchangeContents<'_>: |m, text| gen_tls_clientkeyexchange_vec(m, text);
+    TlsPlaintext<'_>: |record, text| gen_tls_plaintext_vec(&record.hdr, &content(record)?, text);
 }
 
 /// The messages of a record, written one by one, as tls-parser writes a record. Where they are too
 /// long for one, as many bytes as its writer refuses.
 fn content(record: &TlsPlaintext) -> Result<Vec<u8>, Refusal> {
     let mut len = 0usize;
-    for message in record.msg.handshakes() {
-        len = len.saturating_add(gen_tls_messagehandshake_len(&message)?);
+    for message in &record.msg {
+        len = len.saturating_add(gen_tls_message_len(&message)?);
     }
     if len > MAX_RECORD_LEN.into() {
         return Ok(vec![0; usize::from(MAX_RECORD_LEN) + 1]);
     }
     let mut content = Vec::with_capacity(len);
-    for message in record.msg.handshakes() {
-        gen_tls_messagehandshake_vec(&message, &mut content)?;
+    for message in &record.msg {
+        gen_tls_message_vec(&message, &mut content)?;
     }
     Ok(content)
 }

@@ -1,5 +1,5 @@
-//! The numbers of the wire, each once: record types, versions, handshake types and limits; and the
-//! kinds of handshake messages.
+//! The numbers of the wire, each once: record types, alerts, heartbeats, versions, handshake types
+//! and limits; and the kinds of handshake messages.
 //!
 //! Reading and `TlsMessageHandshake::handshake_type` are made of the table of kinds at the end, by
 //! `kinds.rs`. The names are tls-parser's.
@@ -20,6 +20,15 @@ pub(crate) const RECORD_HEADER_LEN: u32 = 5;
 /// The bytes before a message's body: type and length.
 pub(crate) const MESSAGE_HEAD_LEN: u32 = 4;
 
+/// The bytes of a ChangeCipherSpec.
+pub(crate) const CHANGE_CIPHER_SPEC_LEN: u32 = 1;
+
+/// The bytes of an alert: level and description.
+pub(crate) const ALERT_LEN: u32 = 2;
+
+/// The bytes before a heartbeat's payload: type and length.
+pub(crate) const HEARTBEAT_HEAD_LEN: u32 = 3;
+
 /// The forms in which a ClientKeyExchange is written.
 pub(crate) mod form {
     /// The whole body.
@@ -37,7 +46,7 @@ pub(crate) mod reader {
     pub const RECORD_HEADER: u16 = 0x0100;
     /// A record of any type.
     pub const RAW_RECORD: u16 = 0x0101;
-    /// A handshake record.
+    /// A record that is opened.
     pub const PLAINTEXT: u16 = 0x0102;
     /// The message that begins at a byte.
     pub const MESSAGE: u16 = 0x0103;
@@ -45,6 +54,19 @@ pub(crate) mod reader {
     pub const WALK: u16 = 0x0104;
     /// The body of a ServerHello, but not of draft 18.
     pub const SERVER_HELLO: u16 = 0x0105;
+    /// Joined records.
+    pub const MANY: u16 = 0x0106;
+    /// A ChangeCipherSpec.
+    pub const CHANGE_CIPHER_SPEC: u16 = 0x0107;
+    /// An alert.
+    pub const ALERT: u16 = 0x0108;
+    /// A heartbeat of a length.
+    pub const HEARTBEAT: u16 = 0x0109;
+
+    /// The content of a record of that type.
+    pub const fn content(record_type: u8) -> u16 {
+        u16::from_le_bytes([record_type, 0x02])
+    }
 }
 
 newtype! {
@@ -55,6 +77,66 @@ newtype! {
         Handshake = 0x16,
         ApplicationData = 0x17,
         Heartbeat = 0x18,
+    }
+}
+
+newtype! {
+    display
+    /// The level of an alert (RULES 6, RFC 5246 7.2).
+    #[derive(Debug)]
+    TlsAlertSeverity(u8) {
+        Warning = 0x01,
+        Fatal = 0x02,
+    }
+}
+
+newtype! {
+    display
+    /// The description of an alert (RULES 6, RFC 5246 7.2), any byte.
+    #[derive(Debug)]
+    TlsAlertDescription(u8) {
+        CloseNotify = 0x00,
+        UnexpectedMessage = 0x0a,
+        BadRecordMac = 0x14,
+        DecryptionFailed = 0x15,
+        RecordOverflow = 0x16,
+        DecompressionFailure = 0x1e,
+        HandshakeFailure = 0x28,
+        NoCertificate = 0x29,
+        BadCertificate = 0x2a,
+        UnsupportedCertificate = 0x2b,
+        CertificateRevoked = 0x2c,
+        CertificateExpired = 0x2d,
+        CertificateUnknown = 0x2e,
+        IllegalParameter = 0x2f,
+        UnknownCa = 0x30,
+        AccessDenied = 0x31,
+        DecodeError = 0x32,
+        DecryptError = 0x33,
+        ExportRestriction = 0x3c,
+        ProtocolVersion = 0x46,
+        InsufficientSecurity = 0x47,
+        InternalError = 0x50,
+        InappropriateFallback = 0x56,
+        UserCancelled = 0x5a,
+        NoRenegotiation = 0x64,
+        MissingExtension = 0x6d,
+        UnsupportedExtension = 0x6e,
+        CertUnobtainable = 0x6f,
+        UnrecognizedName = 0x70,
+        BadCertStatusResponse = 0x71,
+        BadCertHashValue = 0x72,
+        UnknownPskIdentity = 0x73,
+        CertificateRequired = 0x74,
+        NoApplicationProtocol = 0x78,
+    }
+}
+
+newtype! {
+    /// The type of a heartbeat (RULES 6, RFC 6520 3).
+    TlsHeartbeatMessageType(u8) {
+        HeartBeatRequest = 0x01,
+        HeartBeatResponse = 0x02,
     }
 }
 

@@ -1,6 +1,7 @@
 //! How values are printed: with the text of tls-parser, bytes in hex where it prints them so. A
-//! hello's tail, which tls-parser does not have, is not printed.
+//! hello's tail and a heartbeat's padding, which tls-parser does not have, are not printed.
 
+use crate::content::TlsMessageHeartbeat;
 use crate::handshake::*;
 use crate::record::{TlsPlaintext, TlsRecordHeader};
 use crate::table::TlsCipherSuiteID;
@@ -49,6 +50,10 @@ printed! {
     TlsHelloRetryRequestContents<'_>: hello { "version": hello.version, "ext": hello.ext.map(Hex) };
     RawCertificate<'_>: certificate { "data": Hex(certificate.data) };
     TlsServerKeyExchangeContents<'_>: key { "parameters": Hex(key.parameters) };
+    TlsMessageHeartbeat<'_>: heartbeat {
+        "heartbeat_type": heartbeat.heartbeat_type, "payload_len": heartbeat.payload_len,
+        "payload": heartbeat.payload
+    };
     TlsRecordHeader: header { "type": header.record_type, "version": header.version, "len": header.len };
     TlsPlaintext<'_>: record { "hdr": record.hdr, "msg": record.msg };
 }

@@ -33,7 +33,7 @@ fn records_are_printed_alike_of_a_file_and_of_standard_input() {
 }
 
 #[test]
-fn messages_ciphers_and_refusals_are_printed() {
+fn messages_and_ciphers_are_printed() {
     let look = |path: &str| printed(&example("records"), &[of_tree(path)], Stdio::null());
     let (whole, cut) = (look("crates/look/handshake"), look("crates/look/cut"));
     let first = "record at 0: version 0301, 211 bytes, 1 messages, 0 bytes dropped\n  \
@@ -58,7 +58,8 @@ fn messages_ciphers_and_refusals_are_printed() {
         "NewSessionTicket",
     ];
     assert_eq!(kinds, right);
-    assert_eq!(whole.matches("refused, Elsewhere (10)\n").count(), 2, "{whole}");
+    assert_eq!(whole.matches("\n  ChangeCipherSpec\n").count(), 2, "{whole}");
+    assert!(!whole.contains("refused"), "{whole}");
     assert!(cut.ends_with("\n    extensions absent, and 102 bytes follow\n"), "{cut}");
 }
 
@@ -78,6 +79,36 @@ fn made(name: &str, bytes: &[u8]) -> PathBuf {
     let path = PathBuf::from(env!("CARGO_TARGET_TMPDIR")).join(name);
     std::fs::write(&path, bytes).expect("a file");
     path
+}
+
+#[test]
+fn records_of_every_type_and_refusals_are_printed_alike() {
+    let heartbeat = [&[0x18, 3, 3, 0, 22, 2, 0, 2, 7, 8][..], &[0; 17]].concat();
+    let records: [&[u8]; 7] = [
+        &[0x14, 3, 3, 0, 1, 1],
+        &[0x15, 3, 3, 0, 5, 1, 90, 2, 40, 0],
+        &[0x17, 3, 3, 0, 0],
+        &heartbeat,
+        &[0x15, 3, 3, 0, 1, 0],
+        &[0x19, 3, 3, 0, 0],
+        &[0x16, 3, 3, 0, 4, 1, 0, 0, 0, 0x17, 3, 3, 0, 1],
+    ];
+    let right = "record at 0: version 0303, 1 bytes, 1 messages, 0 bytes dropped\n  \
+                 ChangeCipherSpec\n\
+                 record at 6: version 0303, 5 bytes, 2 messages, 1 bytes dropped\n  \
+                 Alert, level 1, description 90\n  Alert, level 2, description 40\n\
+                 record at 16: version 0303, 0 bytes, 1 messages, 0 bytes dropped\n  \
+                 ApplicationData, 0 bytes\n\
+                 record at 21: version 0303, 22 bytes, 1 messages, 0 bytes dropped\n  \
+                 Heartbeat, type 2, 2 bytes, padding 17\n\
+                 record at 48: refused, LengthValue (4)\n\
+                 record at 54: refused, Switch (6)\n\
+                 record at 59: refused, Complete (2)\n\
+                 record at 68: refused, Incomplete (1)\n";
+    let file = made("every type", &records.concat());
+    for program in programs() {
+        assert_eq!(printed(program, std::slice::from_ref(&file), Stdio::null()), right);
+    }
 }
 
 #[test]

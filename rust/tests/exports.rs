@@ -76,6 +76,11 @@ fn known(most: u16, unknown: Reason, refused: impl Fn(u16) -> Option<Refusal>) -
 fn the_header_has_the_numbers_of_the_binding() {
     let records = known(0xff, Reason::Switch, |n| parse_tls_plaintext(&[n as u8, 0, 0, 0, 0]).err());
     has("record_type", records, |n| TlsRecordType(n as u8).to_string());
+    let levels = known(0xff, Reason::LengthValue, |n| parse_tls_message_alert(&[n as u8, 0]).err());
+    has("severity", levels, |n| TlsAlertSeverity(n as u8).to_string());
+    let heartbeat = |n: u16| [&[n as u8, 0, 0][..], &[0; 16]].concat();
+    let types = known(0xff, Reason::LengthValue, |n| parse_tls_message_heartbeat(&heartbeat(n), 19).err());
+    has("heartbeat_type", types, |n| TlsHeartbeatMessageType(n as u8).to_string());
     let versions =
         known(0xffff, Reason::Tag, |n| parse_tls_handshake_msg_server_hello(&n.to_be_bytes()).err());
     has("version", versions, |n| TlsVersion(n).to_string());

@@ -31,7 +31,7 @@ static const uint8_t FLIGHT[] = {
 static void numbers(void) {
     static const char *const names[] = {
         "accepted", "Incomplete", "Complete", "Verify", "LengthValue", "Tag", "Switch", "TooLarge",
-        "BadLength", "NoRoom", "Elsewhere", "NoSuch", "NotYetImplemented", "unknown"};
+        "BadLength", "NoRoom", "unknown", "NoSuch", "NotYetImplemented", "unknown"};
     uint8_t number;
 
     for (number = 0; number <= NORRABIST_NOT_YET_IMPLEMENTED + 1; number++)
@@ -43,7 +43,7 @@ static void numbers(void) {
 }
 
 static void records(void) {
-    static const uint8_t large[] = {0x16, 3, 1, 0x41, 0x01}, alert[] = {0x15, 3, 3, 0, 2, 1, 0};
+    static const uint8_t large[] = {0x16, 3, 1, 0x41, 0x01}, unlisted[] = {0x19, 3, 3, 0, 0};
     static const uint8_t cut[] = {0x16, 3, 3, 0, 5, 0x01, 0, 0, 1, 3};
     norrabist_record_head_told header = norrabist_parse_tls_record_header(large, sizeof large);
     norrabist_record_head_told raw = norrabist_parse_tls_raw_record(FLIGHT, sizeof FLIGHT);
@@ -58,12 +58,100 @@ static void records(void) {
     HOLDS(norrabist_record_head_next(raw) == sizeof FLIGHT);
     HOLDS(opened.number == NORRABIST_ACCEPTED && opened.version == NORRABIST_TLS10);
     HOLDS(norrabist_plaintext_head_next(opened) == sizeof FLIGHT);
+    HOLDS(opened.record_type == NORRABIST_HANDSHAKE);
     HOLDS(opened.msg_type == NORRABIST_CLIENT_HELLO && opened.body == 48);
-    HOLDS(norrabist_parse_tls_plaintext(alert, sizeof alert).number == NORRABIST_ELSEWHERE);
+    HOLDS(norrabist_parse_tls_plaintext(unlisted, sizeof unlisted).number == NORRABIST_SWITCH);
     /* the first message's body is refused: the record is, with COMPLETE */
     HOLDS(norrabist_parse_tls_plaintext(cut, sizeof cut).number == NORRABIST_ACCEPTED);
     HOLDS(norrabist_refusal(NORRABIST_READER_PLAINTEXT, cut, sizeof cut, 0).number ==
           NORRABIST_COMPLETE);
+}
+
+/* Records of the other types, joined: a ChangeCipherSpec; two alerts with a level that is none
+   behind them; application data that is empty; a heartbeat with a payload of two bytes. */
+static const uint8_t OTHERS[] = {
+    0x14, 3, 3, 0, 1, 1, 0x15, 3, 3, 0, 5, 1, 90, 2, 40, 3, 0x17, 3, 3, 0, 0, 0x18, 3, 3,
+    0, 21, 1, 0, 2, 0xaa, 0xbb, 0xcc, 0, 0, 0, 0, 0, 0, 0, 0, 0, 0, 0, 0, 0, 0, 0xdd};
+
+/* The record at the front is accepted, of that type and so long; it has no first handshake
+   message. Where the next one begins. */
+static const uint8_t *other(const uint8_t *left, uint8_t record_type, uint16_t len) {
+    const size_t left_len = sizeof OTHERS - (size_t)(left - OTHERS);
+    const uint8_t *content = left + NORRABIST_RECORD_HEADER_LEN;
+    norrabist_plaintext_head_told record = norrabist_parse_tls_plaintext(left, left_len);
+    norrabist_content_head_told behind =
+        norrabist_parse_tls_record_with_header(record_type, content, len);
+
+    HOLDS(record.number == NORRABIST_ACCEPTED && record.record_type == record_type);
+    HOLDS(record.version == NORRABIST_TLS12 && record.len == len);
+    HOLDS(record.body == 0 && record.msg_type == 0);
+    HOLDS(behind.number == NORRABIST_ACCEPTED && behind.body == 0 && behind.msg_type == 0);
+    return left + norrabist_plaintext_head_next(record);
+}
+
+static void other_records(void) {
+    static const uint8_t empty[] = {0x14, 3, 3, 0, 0}, level[] = {0x15, 3, 3, 0, 1, 0};
+    static const uint8_t two[] = {0x18, 3, 3, 0, 2, 1, 0};
+    const uint8_t *alerts = other(OTHERS, NORRABIST_CHANGE_CIPHER_SPEC, 1);
+    const uint8_t *data = other(alerts, NORRABIST_ALERT, 5);
+    const uint8_t *heartbeat = other(data, NORRABIST_APPLICATION_DATA, 0);
+    norrabist_records_told joined = norrabist_tls_parser_many(OTHERS, sizeof OTHERS);
+    norrabist_content_head_told behind = norrabist_parse_tls_record_with_header(
+        NORRABIST_HANDSHAKE, FLIGHT + NORRABIST_RECORD_HEADER_LEN, 59);
+
+    HOLDS(other(heartbeat, NORRABIST_HEARTBEAT, 21) == OTHERS + sizeof OTHERS);
+    HOLDS(joined.count == 4 && joined.end == sizeof OTHERS);
+    joined = norrabist_tls_parser_many(OTHERS, sizeof OTHERS - 1);
+    HOLDS(joined.count == 3 && joined.end == (size_t)(heartbeat - OTHERS));
+    joined = norrabist_tls_parser_many(OTHERS, 5);
+    HOLDS(joined.count == 0 && joined.end == 0);
+    HOLDS(norrabist_refusal(NORRABIST_READER_MANY, OTHERS, 5, 0).number == NORRABIST_COMPLETE);
+    HOLDS(norrabist_refusal(NORRABIST_READER_PLAINTEXT, OTHERS, 5, 0).number ==
+          NORRABIST_INCOMPLETE);
+    HOLDS(behind.number == NORRABIST_ACCEPTED && behind.body == 48);
+    HOLDS(behind.msg_type == NORRABIST_CLIENT_HELLO);
+    HOLDS(norrabist_parse_tls_record_with_header(0x19, OTHERS, 1).number == NORRABIST_SWITCH);
+    HOLDS(norrabist_parse_tls_plaintext(empty, sizeof empty).number == NORRABIST_COMPLETE);
+    HOLDS(norrabist_parse_tls_plaintext(level, sizeof level).number == NORRABIST_LENGTH_VALUE);
+    HOLDS(norrabist_parse_tls_plaintext(two, sizeof two).number == NORRABIST_INCOMPLETE);
+}
+
+static void other_messages(void) {
+    const uint8_t *alerts = OTHERS + 11, *heartbeat = OTHERS + 26;
+    norrabist_tally_told tally = norrabist_count_contents(NORRABIST_ALERT, alerts, 5);
+    norrabist_alert_told alert =
+        norrabist_parse_tls_message_alert(alerts + norrabist_alert_start(1), 2);
+    norrabist_heartbeat_told beat = norrabist_parse_tls_message_heartbeat(heartbeat, 21, 21);
+
+    HOLDS(norrabist_parse_tls_message_changecipherspec(OTHERS + 5, 1) == NORRABIST_ACCEPTED);
+    HOLDS(norrabist_parse_tls_message_changecipherspec(OTHERS, 1) == NORRABIST_LENGTH_VALUE);
+    HOLDS(norrabist_parse_tls_message_changecipherspec(OTHERS, 0) == NORRABIST_INCOMPLETE);
+    HOLDS(tally.count == 2 && tally.end == norrabist_alert_start(2) && tally.end == 4);
+    HOLDS(alerts[0] == NORRABIST_WARNING && NORRABIST_ALERT_LEN == 2);
+    HOLDS(alert.number == NORRABIST_ACCEPTED && alert.severity == NORRABIST_FATAL);
+    HOLDS(alert.code == 40 && alerts[norrabist_alert_start(1) + 1] == alert.code);
+    HOLDS(norrabist_parse_tls_message_alert(alerts, 1).number == NORRABIST_INCOMPLETE);
+    HOLDS(norrabist_parse_tls_message_alert(alerts + 4, 1).number == NORRABIST_LENGTH_VALUE);
+    HOLDS(beat.number == NORRABIST_ACCEPTED && beat.payload == 2);
+    HOLDS(beat.heartbeat_type == NORRABIST_HEART_BEAT_REQUEST);
+    HOLDS(heartbeat[NORRABIST_PAYLOAD_AT] == 0xaa);
+    HOLDS(heartbeat[norrabist_heartbeat_padding(beat)] == 0xcc);
+    HOLDS(21 - norrabist_heartbeat_padding(beat) == NORRABIST_MIN_PADDING_LEN);
+    HOLDS(norrabist_parse_tls_message_heartbeat(heartbeat, 21, 20).number ==
+          NORRABIST_LENGTH_VALUE);
+    HOLDS(norrabist_parse_tls_message_heartbeat(heartbeat, 21, 2).number == NORRABIST_INCOMPLETE);
+    HOLDS(norrabist_parse_tls_message_heartbeat(heartbeat, 20, 21).number ==
+          NORRABIST_INCOMPLETE);
+    tally = norrabist_count_contents(NORRABIST_CHANGE_CIPHER_SPEC, OTHERS + 5, 2);
+    HOLDS(tally.count == 1 && tally.end == 1);
+    tally = norrabist_count_contents(NORRABIST_APPLICATION_DATA, OTHERS, 0);
+    HOLDS(tally.count == 1 && tally.end == 0);
+    tally = norrabist_count_contents(NORRABIST_HEARTBEAT, heartbeat, 21);
+    HOLDS(tally.count == 1 && tally.end == 21);
+    tally = norrabist_count_contents(NORRABIST_HANDSHAKE, FLIGHT + 5, sizeof FLIGHT - 5);
+    HOLDS(tally.count == 2 && tally.end == 56);
+    tally = norrabist_count_contents(0x19, OTHERS, 1);
+    HOLDS(tally.count == 0 && tally.end == 0);
 }
 
 static void messages(void) {
@@ -228,7 +316,21 @@ static void refusals(void) {
           NORRABIST_INCOMPLETE);
     HOLDS(norrabist_refusal(NORRABIST_READER_WALK, content, len, 52).number == NORRABIST_ACCEPTED);
     HOLDS(norrabist_refusal(NORRABIST_READER_WALK, content, len, 56).number == NORRABIST_NO_SUCH);
-    HOLDS(norrabist_refusal(0x0106, tag, 2, 0).number == NORRABIST_SWITCH);
+    HOLDS(norrabist_refusal(NORRABIST_READER_MANY, OTHERS, sizeof OTHERS, 0).number ==
+          NORRABIST_ACCEPTED);
+    HOLDS(norrabist_refusal(NORRABIST_READER_CHANGE_CIPHER_SPEC, tag, 2, 0).number ==
+          NORRABIST_LENGTH_VALUE);
+    HOLDS(norrabist_refusal(NORRABIST_READER_ALERT, tag + 1, 0, 0).number == NORRABIST_INCOMPLETE);
+    HOLDS(norrabist_refusal(NORRABIST_READER_HEARTBEAT, OTHERS + 26, 21, 20).number ==
+          NORRABIST_LENGTH_VALUE);
+    HOLDS(norrabist_refusal(NORRABIST_READER_HEARTBEAT, OTHERS + 26, 21, 0x10015).number ==
+          NORRABIST_ACCEPTED);
+    HOLDS(norrabist_refusal(NORRABIST_READER_CONTENT + NORRABIST_ALERT, OTHERS + 11, 1, 0).number ==
+          NORRABIST_COMPLETE);
+    HOLDS(norrabist_refusal(NORRABIST_READER_CONTENT + NORRABIST_HANDSHAKE, content, len, 0)
+              .number == NORRABIST_ACCEPTED);
+    HOLDS(norrabist_refusal(NORRABIST_READER_CONTENT, tag, 2, 0).number == NORRABIST_SWITCH);
+    HOLDS(norrabist_refusal(0x010a, tag, 2, 0).number == NORRABIST_SWITCH);
 }
 
 /* More than a record may hold. */
@@ -288,6 +390,19 @@ static void writers(void) {
     HOLDS(wrote.number == NORRABIST_NO_ROOM && wrote.count == 16);
     wrote = norrabist_gen_tls_finished(FLIGHT, 12, text, sizeof text);
     HOLDS(wrote.count == 16 && text[0] == NORRABIST_FINISHED && text[3] == 12);
+    wrote = norrabist_gen_tls_changecipherspec(text, 0);
+    HOLDS(wrote.number == NORRABIST_NO_ROOM && wrote.count == 1);
+    wrote = norrabist_gen_tls_changecipherspec(text, sizeof text);
+    HOLDS(wrote.number == NORRABIST_ACCEPTED && wrote.count == 1 && text[0] == 1);
+    wrote = norrabist_gen_tls_alert(NORRABIST_FATAL, 40, text, 1);
+    HOLDS(wrote.number == NORRABIST_NO_ROOM && wrote.count == NORRABIST_ALERT_LEN);
+    wrote = norrabist_gen_tls_alert(NORRABIST_FATAL + 1, 40, text, 1);
+    HOLDS(wrote.number == NORRABIST_BAD_LENGTH && wrote.count == 0);
+    wrote = norrabist_gen_tls_alert(NORRABIST_FATAL, 40, text, sizeof text);
+    HOLDS(wrote.number == NORRABIST_ACCEPTED && text[0] == 2 && text[1] == 40);
+    wrote = norrabist_gen_tls_plaintext(NORRABIST_ALERT, NORRABIST_TLS12, text, wrote.count, record,
+                                        sizeof record);
+    HOLDS(wrote.count == 7 && memcmp(record, "\25\3\3\0\2\2\50", 7) == 0);
     HOLDS(norrabist_kind_written(NORRABIST_SERVER_HELLO_V13_DRAFT18) == NORRABIST_ACCEPTED);
     HOLDS(norrabist_kind_written(NORRABIST_FINISHED) == NORRABIST_ACCEPTED);
     HOLDS(norrabist_kind_written(NORRABIST_CERTIFICATE) == NORRABIST_NOT_YET_IMPLEMENTED);
@@ -296,6 +411,8 @@ static void writers(void) {
 int main(void) {
     numbers();
     records();
+    other_records();
+    other_messages();
     messages();
     client_hello();
     server_hello();

@@ -111,14 +111,14 @@ fn the_header_has_the_table_of_refusals() {
     let rows = rows.filter_map(|(number, row)| Some((number.parse::<u8>().ok()?, row)));
     let (_, of) = header.split_once("enum norrabist_reason { ").expect("the enum");
     let table: Vec<_> = pieces(of.split_once(" }").expect("its end").0, ',').collect();
-    let mut count = 0;
+    let mut numbers = Vec::new();
     for ((number, row), told) in rows.take(table.len()).zip(&table) {
         let name = row.split([' ', '|']).next().expect("a name");
         let constant = format!("NORRABIST_{}", snake(name).to_uppercase());
         assert_eq!(*told, format!("{constant} = {number}"));
         assert!(header.contains(&format!("case {constant}: return \"{name}\";")), "{name}");
-        assert_eq!(usize::from(number), count);
-        count += 1;
+        numbers.push(number);
     }
-    assert_eq!((count, header.matches("case NORRABIST_").count()), (table.len(), table.len()));
+    assert!(numbers.into_iter().eq((0..=12).filter(|number| *number != 10)));
+    assert_eq!((table.len(), header.matches("case NORRABIST_").count()), (12, 12));
 }

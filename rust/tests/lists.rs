@@ -232,5 +232,5 @@ fn made_of_a_vec() {
 /// A message is a value of plain words: there is nothing to drop.
 #[test]
 fn nothing_to_drop() {
-    assert!(!std::mem::needs_drop::<TlsMessageHandshake>());
+    assert!(!std::mem::needs_drop::<TlsMessageHandshake>() && !std::mem::needs_drop::<TlsMessage>());
 }

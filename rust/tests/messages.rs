@@ -61,10 +61,10 @@ fn every_way_hands_out_the_same() {
 /// Iterators have at most 64 bytes: a slice, or one with a place and what was told of a message.
 #[test]
 fn what_is_handed_round_is_small() {
-    assert_eq!((size_of::<Heads>(), size_of::<Handshakes>(), size_of::<Messages>()), (24, 48, 48));
+    assert_eq!((size_of::<Heads>(), size_of::<Handshakes>(), size_of::<Messages>()), (24, 48, 56));
     assert_eq!((size_of::<Parts<RawCertificate>>(), size_of::<Parts<&[u8]>>()), (24, 24));
     assert_eq!((size_of::<Refs<u16>>(), size_of::<Values<TlsCipherSuiteID>>()), (40, 40));
     assert_eq!((size_of::<Refs<u8>>(), size_of::<Values<TlsCompressionID>>()), (16, 16));
-    assert_eq!((size_of::<TlsMessages>(), size_of::<List<RawCertificate>>()), (48, 16));
+    assert_eq!((size_of::<TlsMessages>(), size_of::<List<RawCertificate>>()), (56, 16));
     assert!(size_of::<Refusal>() <= 2);
 }

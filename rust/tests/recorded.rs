@@ -1,24 +1,24 @@
-//! tls-parser's recorded answers, given by Norrabist too.
+//! The recorded answers, tls-parser's or those of a listed difference, given by Norrabist.
 
 mod support;
 
-use norrabist::{parse_tls_plaintext, record_walk_next, Reason, TlsMessage};
+use norrabist::{parse_tls_plaintext, record_walk_next, Reason, TlsMessage, TlsPlaintext, TlsRecordType};
 use std::io::{self, Write};
 use support::{answer, functions, reasons, text, writing};
 
-/// The recorded list, and the smallest inputs at which tls-parser and RFC 5246 part.
+/// The recorded list, and the smallest inputs at which tls-parser and the RFCs part.
 const LIST: &str = concat!(env!("CARGO_MANIFEST_DIR"), "/../compare/recorded.txt");
 const DIFFERENCES: &str = concat!(env!("CARGO_MANIFEST_DIR"), "/../compare/differences.txt");
 
 #[test]
 fn answers_as_recorded() {
-    let counts = replay("recorded list", LIST, 9_200);
+    let counts = replay("recorded list", LIST, 11_300);
     assert!(counts.iter().all(|count| *count > 0), "a function without a case");
 }
 
 #[test]
 fn differences_are_as_listed() {
-    replay("differences", DIFFERENCES, 24);
+    replay("differences", DIFFERENCES, 49);
 }
 
 /// How many cases there are of each function; none of them differs.
@@ -87,6 +87,9 @@ fn outputs(name: &str, input: &[u8], answer: &[u64]) -> Result<(), String> {
 /// before the bytes dropped.
 fn walks(input: &[u8]) -> Result<(), String> {
     let Ok((_, record)) = parse_tls_plaintext(input) else { return Ok(()) };
+    if record.hdr.record_type != TlsRecordType::Handshake {
+        return others(&record);
+    }
     let content = record.msg.as_bytes();
     let (mut at, mut count) = (0, 0);
     let mut heads = record.msg.heads();
@@ -107,4 +110,21 @@ fn walks(input: &[u8]) -> Result<(), String> {
         return Ok(());
     }
     Err(format!("{count} messages, the last ends at {at}: ended {ended}, counted {counted}"))
+}
+
+/// Of a record of another type too, whose messages have one length each.
+fn others(record: &TlsPlaintext) -> Result<(), String> {
+    let content = record.msg.as_bytes();
+    let len = match record.hdr.record_type {
+        TlsRecordType::ChangeCipherSpec => 1,
+        TlsRecordType::Alert => 2,
+        _ => content.len(),
+    };
+    let count = record.msg.iter().count();
+    let counted = count == record.count() && count == record.msg.len() && !record.msg.is_empty();
+    let ended = content.len() - count * len == record.dropped();
+    if counted && ended && record.msg.handshakes().next().is_none() {
+        return Ok(());
+    }
+    Err(format!("{count} messages of {len} bytes: counted {counted}, {} dropped", record.dropped()))
 }

@@ -1,21 +1,21 @@
 //! Each refusal once, with its number, name and text, and what a refused writing leaves.
 
 use norrabist::*;
-use std::collections::HashSet;
+use std::collections::HashMap;
 
-const NAMES: [&str; 12] = [
-    "Incomplete",
-    "Complete",
-    "Verify",
-    "LengthValue",
-    "Tag",
-    "Switch",
-    "TooLarge",
-    "BadLength",
-    "NoRoom",
-    "Elsewhere",
-    "NoSuch",
-    "NotYetImplemented",
+/// The table. There is no number 10.
+const TABLE: [(u8, &str); 11] = [
+    (1, "Incomplete"),
+    (2, "Complete"),
+    (3, "Verify"),
+    (4, "LengthValue"),
+    (5, "Tag"),
+    (6, "Switch"),
+    (7, "TooLarge"),
+    (8, "BadLength"),
+    (9, "NoRoom"),
+    (11, "NoSuch"),
+    (12, "NotYetImplemented"),
 ];
 
 fn reason<T>(answer: Result<T, Refusal>) -> Option<Reason> {
@@ -42,7 +42,7 @@ fn client(rest: &[u8]) -> Option<Reason> {
 }
 
 /// An example of each, by its number.
-fn refused() -> [Option<Reason>; 12] {
+fn refused() -> [Option<Reason>; TABLE.len()] {
     let short = TlsClientHelloContents { random: &[7; 31], ..hello() };
     let unwritten = TlsMessageHandshake::ServerDone(&[]);
     let mut out = [0; 100];
@@ -56,7 +56,6 @@ fn refused() -> [Option<Reason>; 12] {
         reason(parse_tls_raw_record(&[0x16, 0x03, 0x03, 0x41, 0x01])),
         reason(gen_tls_clienthello(&short, &mut out)),
         reason(gen_tls_hellorequest(&mut out[..3])),
-        reason(parse_tls_plaintext(&[0x15, 0x03, 0x03, 0, 2, 1, 0])),
         reason(record_walk_next(&[0, 0, 0, 0], 4)),
         reason(gen_tls_messagehandshake(&unwritten, &mut out)),
     ]
@@ -69,11 +68,12 @@ fn each_is_given() {
 
 #[test]
 fn numbers_and_names() {
-    for (k, (reason, name)) in Reason::ALL.iter().zip(NAMES).enumerate() {
+    assert_eq!(Reason::ALL.len(), TABLE.len());
+    for (reason, (number, name)) in Reason::ALL.iter().zip(TABLE) {
         let refusal = Refusal::from(*reason);
-        assert_eq!((usize::from(refusal.number()), refusal.name()), (k + 1, name));
-        assert_eq!(Reason::from(refusal.number()), *reason);
-        assert_eq!(refusal.to_string(), format!("{name} ({}): {}", k + 1, reason.text()));
+        assert_eq!((refusal.number(), refusal.name()), (number, name));
+        assert_eq!(Reason::from(number), *reason);
+        assert_eq!(refusal.to_string(), format!("{name} ({number}): {}", reason.text()));
         assert!(refusal == *reason);
         let error: &dyn std::error::Error = &refusal;
         assert!(error.source().is_none());
@@ -82,12 +82,13 @@ fn numbers_and_names() {
 
 #[test]
 fn an_unknown_number_has_no_name_of_another() {
-    let names: HashSet<&str> = NAMES.into_iter().collect();
-    for number in (0..=u8::MAX).filter(|n| !(1..=12).contains(n)) {
+    let known: HashMap<u8, &str> = TABLE.into_iter().collect();
+    for number in (0..=u8::MAX).filter(|number| !known.contains_key(number)) {
         let unknown = Reason::from(number);
         assert_eq!((unknown, unknown.number()), (Reason::Unknown(number), number));
-        assert!(!names.contains(unknown.name()));
+        assert!(known.values().all(|name| *name != unknown.name()));
     }
+    assert_eq!(Reason::from(10), Reason::Unknown(10));
 }
 
 #[test]

@@ -60,6 +60,40 @@ fn messages_are_walked_and_written_again() {
     assert!(messages::handed_on(&record[5..]) && !messages::first_is_a_hello(&read));
 }
 
+#[test]
+fn records_of_every_type_are_told_apart() {
+    let heartbeat = [&[0x18, 3, 3, 0, 19, 1, 0, 0][..], &[0; 16]].concat();
+    let records: [&[u8]; 6] = [
+        &[0x16, 3, 3, 0, 5, 0x14, 0, 0, 1, 9],
+        &[0x14, 3, 3, 0, 1, 1],
+        &[0x15, 3, 3, 0, 4, 1, 0, 2, 40],
+        &[0x17, 3, 3, 0, 2, 8, 9],
+        &heartbeat,
+        &[0x15, 3, 3, 0, 1, 0],
+    ];
+    let all = records.concat();
+    let kinds = ["handshake", "change", "alert", "fatal", "data", "heartbeat"];
+    assert_eq!(messages::told_by_kinds(&all), kinds);
+    assert_eq!(messages::alerts(records[2]), [(1, 0), (2, 40)]);
+    assert_eq!((messages::bleeds(&heartbeat), messages::bleeds(records[2])), (Some(false), None));
+    let closed =
+        |record| norrabist::parse_tls_plaintext(record).map(|(_, record)| messages::is_closed(&record));
+    assert_eq!((closed(records[1]), closed(records[2])), (Ok(false), Ok(true)));
+    assert_eq!(records.map(messages::one_by_its_type), [None, Some(0), Some(3), Some(2), Some(0), None]);
+    assert_eq!(records.map(messages::behind_a_header), [Some(2), Some(2), Some(4), Some(2), Some(2), None]);
+    assert_eq!((messages::many_records(&all), messages::many_counted(&all)), (Some(2), (6, 6)));
+    assert_eq!((messages::many_in_a_vec(&all).len(), messages::many_records(records[5])), (5, None));
+    let norrabist::TlsMessage::Alert(alert) = messages::an_alert(norrabist::TlsAlertSeverity::Fatal) else {
+        panic!("no alert");
+    };
+    let text = messages::alert_in_words(&alert);
+    assert!(
+        text.starts_with("Fatal HandshakeFailure TlsAlertSeverity(2) TlsAlertDescription(40) "),
+        "{text}"
+    );
+    assert_eq!(messages::written_again(records[2]).as_deref(), Some(records[2]));
+}
+
 /// What `MOVING.md` has on the right of its table: each function is a row or a part of one.
 #[allow(dead_code)]
 mod moved {
@@ -118,6 +152,25 @@ mod moved {
             all &= message(&msg);
         }
         all && record.msg.first() == record.msg.get(0)
+    }
+
+    fn heartbeats(i: &[u8], len: u16) -> Result<bool, Refusal> {
+        let heartbeat_type = TlsHeartbeatMessageType::HeartBeatRequest;
+        let empty =
+            TlsMessageHeartbeat { heartbeat_type, payload_len: 0, payload: &[], ..Default::default() };
+        let (_, message) = parse_tls_message_heartbeat(i, len)?;
+        Ok(message == TlsMessage::Heartbeat(empty))
+    }
+
+    fn of_headers(data: &[u8], hdr: &TlsRecordHeader) -> Result<usize, Refusal> {
+        let v: Vec<TlsMessage> = parse_tls_record_with_header(data, hdr)?.1.to_vec();
+        Ok(v.len())
+    }
+
+    fn of_many(i: &[u8]) -> Result<bool, Refusal> {
+        let (_, records) = tls_parser_many(i)?;
+        let v: Vec<TlsPlaintext> = records.to_vec();
+        Ok(records.first().as_ref() == v.first())
     }
 
     fn written(hello: &TlsClientHelloContents, out: &mut [u8]) -> Result<Vec<u8>, Refusal> {

@@ -74,6 +74,43 @@ fn other_contents() {
 }
 
 #[test]
+fn messages_of_the_other_types() {
+    let alert = TlsMessageAlert { severity: TlsAlertSeverity::Fatal, code: TlsAlertDescription(40) };
+    assert_eq!(
+        format!("{:?}", TlsMessage::Alert(alert)),
+        "Alert(TlsMessageAlert { severity: TlsAlertSeverity(2), code: TlsAlertDescription(40) })"
+    );
+    assert_eq!(
+        format!("{} {} {} {}", alert.severity, alert.code, TlsAlertSeverity(3), TlsAlertDescription(1)),
+        "Fatal HandshakeFailure TlsAlertSeverity(3 / 0x3) TlsAlertDescription(1 / 0x1)"
+    );
+    let heartbeat = TlsMessageHeartbeat {
+        heartbeat_type: TlsHeartbeatMessageType::HeartBeatRequest,
+        payload_len: 2,
+        payload: &[10, 11],
+        // is not printed
+        padding: &[0; 16],
+    };
+    assert_eq!(
+        format!("{:?}", TlsMessage::Heartbeat(heartbeat)),
+        "Heartbeat(TlsMessageHeartbeat { heartbeat_type: HeartBeatRequest, payload_len: 2, \
+         payload: [10, 11] })"
+    );
+    let data = TlsMessage::ApplicationData(TlsMessageApplicationData { blob: &[22] });
+    assert_eq!(
+        format!("{:?} {data:?} {}", TlsMessage::ChangeCipherSpec, TlsHeartbeatMessageType(9)),
+        "ChangeCipherSpec ApplicationData(TlsMessageApplicationData { blob: [22] }) \
+         TlsHeartbeatMessageType(9 / 0x9)"
+    );
+    let record = [0x15, 3, 3, 0, 2, 1, 0];
+    assert_eq!(
+        format!("{:?}", parse_tls_plaintext(&record).expect("a record").1),
+        "TlsPlaintext { hdr: TlsRecordHeader { type: Alert, version: Tls12, len: 2 }, msg: [Alert(\
+         TlsMessageAlert { severity: TlsAlertSeverity(1), code: TlsAlertDescription(0) })] }"
+    );
+}
+
+#[test]
 fn numbers() {
     let (known, unknown) = (TlsVersion(0x0303), TlsVersion(0x0305));
     assert_eq!(

@@ -144,6 +144,93 @@ fn by_the_writer_of_the_kind() {
     same(TlsMessageHandshake::Finished(&[1]), forms, v);
 }
 
+fn alert(severity: u8, code: u8) -> TlsMessageAlert {
+    TlsMessageAlert { severity: TlsAlertSeverity(severity), code: TlsAlertDescription(code) }
+}
+
+/// What a writer of messages gives in its three forms, which are one text; the output behind it and
+/// what a `Vec` held are as they were.
+fn message(message: TlsMessage) -> Result<Vec<u8>, Reason> {
+    let (mut out, mut vec) = ([0xa5; 200], vec![9, 9]);
+    let wrote = gen_tls_message(&message, &mut out);
+    assert_eq!([gen_tls_message_len(&message), gen_tls_message_vec(&message, &mut vec)], [wrote; 2]);
+    let len = wrote.unwrap_or(0);
+    assert_eq!((&vec[..2], &vec[2..]), (&[9, 9][..], &out[..len]));
+    assert!(out[len..].iter().all(|byte| *byte == 0xa5));
+    assert_eq!(message.serialize().map(|text| text.len()), wrote);
+    wrote.map(|len| out[..len].to_vec()).map_err(|refusal| refusal.reason)
+}
+
+#[test]
+fn a_change_cipher_spec() {
+    let mut vec = Vec::new();
+    assert_eq!((gen_tls_changecipherspec_len(), gen_tls_changecipherspec_vec(&mut vec)), (Ok(1), Ok(1)));
+    assert_eq!((vec, message(TlsMessage::ChangeCipherSpec)), (vec![1], Ok(vec![1])));
+    let mut out = [0xa5; 2];
+    assert!(gen_tls_changecipherspec(&mut []).is_err_and(|refusal| refusal == Reason::NoRoom));
+    assert_eq!((gen_tls_changecipherspec(&mut out), out), (Ok(1), [1, 0xa5]));
+}
+
+#[test]
+fn alerts_of_either_level() {
+    for (level, code) in (0..=0xff).flat_map(|level| [0, 40, 0xff].map(|code| (level, code))) {
+        let alert = alert(level, code);
+        let mut vec = Vec::new();
+        let forms = [gen_tls_alert_len(&alert), gen_tls_alert_vec(&alert, &mut vec)];
+        let text = message(TlsMessage::Alert(alert));
+        assert_eq!(alert.serialize().map_err(|refusal| refusal.reason), text);
+        for room in 0..2 {
+            let mut out = [0xa5; 2];
+            let refused = gen_tls_alert(&alert, &mut out[..room]).map_err(|refusal| refusal.reason);
+            // the level is looked at before the room
+            let right = if [1, 2].contains(&level) { Reason::NoRoom } else { Reason::BadLength };
+            assert_eq!((refused, out), (Err(right), [0xa5; 2]));
+        }
+        if [1, 2].contains(&level) {
+            assert_eq!((forms, vec, text), ([Ok(2); 2], vec![level, code], Ok(vec![level, code])));
+        } else {
+            assert!(forms.into_iter().all(|form| form.is_err_and(|refusal| refusal == Reason::BadLength)));
+            assert_eq!((vec, text), (vec![], Err(Reason::BadLength)));
+        }
+    }
+}
+
+#[test]
+fn messages_by_their_kinds() {
+    for (handshake, _) in messages() {
+        let alone = handshake.serialize().map_err(|refusal| refusal.reason);
+        assert_eq!(message(TlsMessage::Handshake(handshake)), alone);
+    }
+    let unwritten = Err(Reason::NotYetImplemented);
+    let data = TlsMessageApplicationData { blob: &[1] };
+    assert_eq!(message(TlsMessage::ApplicationData(data)), unwritten);
+    assert_eq!(message(TlsMessage::Heartbeat(TlsMessageHeartbeat::default())), unwritten);
+}
+
+/// What was read is written again, as the record that it was.
+#[test]
+fn records_of_the_other_types() {
+    for record in
+        [&[0x14, 3, 3, 0, 2, 1, 1][..], &[0x15, 3, 1, 0, 4, 1, 90, 2, 40], &[0x15, 3, 3, 0, 2, 2, 0]]
+    {
+        let (_, read) = parse_tls_plaintext(record).expect("a record");
+        assert_eq!(read.serialize().as_deref(), Ok(record));
+    }
+    // what is in no message is not written
+    let (_, read) = parse_tls_plaintext(&[0x15, 3, 3, 0, 3, 2, 0, 0]).expect("a record");
+    assert_eq!(read.serialize(), Ok(vec![0x15, 3, 3, 0, 2, 2, 0]));
+    let heartbeat = [&[0x18, 3, 3, 0, 19, 1, 0, 0][..], &[0; 16]].concat();
+    for record in [&[0x17, 3, 3, 0, 1, 7][..], &heartbeat] {
+        let (_, read) = parse_tls_plaintext(record).expect("a record");
+        assert!(read.serialize().is_err_and(|refusal| refusal == Reason::NotYetImplemented));
+    }
+    let mut text = Vec::new();
+    let hdr = TlsRecordHeader { record_type: TlsRecordType::Alert, ..HEADER };
+    let written = alert(2, 40).serialize().expect("an alert");
+    assert_eq!(gen_tls_plaintext_vec(&hdr, &written, &mut text), Ok(7));
+    assert_eq!(text, [0x15, 3, 3, 0, 2, 2, 40]);
+}
+
 #[test]
 fn a_record_round_messages() {
     let mut flight = Vec::new();
@@ -212,6 +299,9 @@ fn nothing_is_taken_for_what_is_refused() {
     let (bytes, answer) = asked(|| record.serialize());
     assert!(answer.is_err_and(|refusal| refusal == Reason::TooLarge));
     assert_eq!(bytes, usize::from(MAX_RECORD_LEN) + 1);
+    let specs = vec![1; usize::from(MAX_RECORD_LEN) + 1];
+    let specs = TlsPlaintext { msg: TlsMessages::of(TlsRecordType::ChangeCipherSpec, &specs), ..record };
+    assert!(specs.serialize().is_err_and(|refusal| refusal == Reason::TooLarge));
     let most = TlsPlaintext { msg: TlsMessages::new(&long[..MAX_RECORD_LEN.into()]), ..record };
     assert_eq!(most.serialize().map(|text| text.len()), Ok(5 + usize::from(MAX_RECORD_LEN)));
 }

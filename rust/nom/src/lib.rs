@@ -29,18 +29,13 @@ pub use norrabist::*;
 
 #[cfg(feature = "alloc")]
 use alloc::vec::Vec;
-#[cfg(feature = "alloc")]
-use nom::combinator::complete;
 use nom::error::{Error, ErrorKind};
-#[cfg(feature = "alloc")]
-use nom::multi::many1;
 use nom::Needed;
 
 /// What nom has for a refusal of `i`.
 ///
 /// `Incomplete` does not say how many bytes are missing. An error has the whole input of the call,
-/// where tls-parser has the place in it. `Elsewhere`, which tls-parser has not, and what no reader
-/// answers are `ErrorKind::Fail`.
+/// where tls-parser has the place in it. What no reader answers is `ErrorKind::Fail`.
 pub fn error(i: &[u8], refusal: Refusal) -> Err<Error<&[u8]>> {
     let code = match refusal.name() {
         "Incomplete" => return Err::Incomplete(Needed::Unknown),
@@ -57,10 +52,10 @@ pub fn error(i: &[u8], refusal: Refusal) -> Err<Error<&[u8]>> {
 
 /// A reader with nom's result.
 macro_rules! readers {
-    ($($(#[$doc:meta])* $name:ident($($len:ident)?) -> $value:ident;)*) => {$(
+    ($($(#[$doc:meta])* $name:ident($($len:ident: $number:ident)?) -> $value:ident;)*) => {$(
         #[doc = concat!("[`norrabist::", stringify!($name), "`] with nom's result.")]
         #[inline]
-        pub fn $name(i: &[u8] $(, $len: usize)?) -> IResult<&[u8], readers!(@ $value)> {
+        pub fn $name(i: &[u8] $(, $len: $number)?) -> IResult<&[u8], readers!(@ $value)> {
             norrabist::$name(i $(, $len)?).map_err(|refusal| error(i, refusal))
         }
     )*};
@@ -74,6 +69,10 @@ readers! {
     parse_tls_encrypted() -> TlsEncrypted;
     parse_tls_plaintext() -> TlsPlaintext;
     parse_tls_message_handshake() -> TlsMessage;
+    parse_tls_message_changecipherspec() -> TlsMessage;
+    parse_tls_message_alert() -> TlsMessage;
+    parse_tls_message_applicationdata() -> TlsMessage;
+    parse_tls_message_heartbeat(tls_plaintext_len: u16) -> TlsMessage;
     parse_tls_handshake_client_hello() -> TlsClientHelloContents;
     parse_tls_handshake_server_hello() -> TlsServerHelloContents;
     parse_tls_handshake_certificaterequest() -> TlsCertificateRequestContents;
@@ -88,36 +87,47 @@ readers! {
     parse_tls_handshake_msg_certificatestatus() -> TlsMessageHandshake;
     parse_tls_handshake_msg_next_protocol() -> TlsMessageHandshake;
     parse_tls_handshake_msg_key_update() -> TlsMessageHandshake;
-    parse_tls_handshake_msg_newsessionticket(len) -> TlsMessageHandshake;
-    parse_tls_handshake_msg_serverkeyexchange(len) -> TlsMessageHandshake;
-    parse_tls_handshake_msg_serverdone(len) -> TlsMessageHandshake;
-    parse_tls_handshake_msg_certificateverify(len) -> TlsMessageHandshake;
-    parse_tls_handshake_msg_clientkeyexchange(len) -> TlsMessageHandshake;
-    parse_tls_handshake_msg_finished(len) -> TlsMessageHandshake;
+    parse_tls_handshake_msg_newsessionticket(len: usize) -> TlsMessageHandshake;
+    parse_tls_handshake_msg_serverkeyexchange(len: usize) -> TlsMessageHandshake;
+    parse_tls_handshake_msg_serverdone(len: usize) -> TlsMessageHandshake;
+    parse_tls_handshake_msg_certificateverify(len: usize) -> TlsMessageHandshake;
+    parse_tls_handshake_msg_clientkeyexchange(len: usize) -> TlsMessageHandshake;
+    parse_tls_handshake_msg_finished(len: usize) -> TlsMessageHandshake;
 }
 
 /// The messages of a record's content, until one cannot be read; at least one. What is left over is
 /// the rest.
 ///
-/// Of the types of records only `Handshake` is opened. The walk is nom's; each message is read by
-/// [`norrabist::parse_tls_message_handshake`].
+/// [`norrabist::parse_tls_record_with_header`] with nom's result, in a `Vec`.
 #[cfg(feature = "alloc")]
 pub fn parse_tls_record_with_header<'i>(
     i: &'i [u8],
     hdr: &TlsRecordHeader,
 ) -> IResult<&'i [u8], Vec<TlsMessage<'i>>> {
-    match hdr.record_type {
-        TlsRecordType::Handshake => many1(complete(parse_tls_message_handshake))(i),
-        TlsRecordType::ChangeCipherSpec
-        | TlsRecordType::Alert
-        | TlsRecordType::ApplicationData
-        | TlsRecordType::Heartbeat => Err(Err::Error(Error::new(i, ErrorKind::Fail))),
-        _ => Err(Err::Error(Error::new(i, ErrorKind::Switch))),
-    }
+    let read = norrabist::parse_tls_record_with_header(i, hdr);
+    read.map(|(rest, messages)| (rest, messages.to_vec())).map_err(|refusal| error(i, refusal))
 }
 
-/// Handshake records, until one cannot be read; at least one. The walk is nom's.
+/// Records, until one cannot be read; at least one. What is left over is the rest.
+///
+/// [`norrabist::tls_parser_many`] with nom's result, in a `Vec`.
 #[cfg(feature = "alloc")]
 pub fn tls_parser_many(i: &[u8]) -> IResult<&[u8], Vec<TlsPlaintext<'_>>> {
-    many1(complete(parse_tls_plaintext))(i)
+    let read = norrabist::tls_parser_many(i);
+    read.map(|(rest, records)| (rest, records.to_vec())).map_err(|refusal| error(i, refusal))
+}
+
+/// [`norrabist::parse_tls_record_with_header`] with nom's result. With `alloc` it gives a `Vec`.
+#[cfg(not(feature = "alloc"))]
+pub fn parse_tls_record_with_header<'i>(
+    i: &'i [u8],
+    hdr: &TlsRecordHeader,
+) -> IResult<&'i [u8], TlsMessages<'i>> {
+    norrabist::parse_tls_record_with_header(i, hdr).map_err(|refusal| error(i, refusal))
+}
+
+/// [`norrabist::tls_parser_many`] with nom's result. With `alloc` it gives a `Vec`.
+#[cfg(not(feature = "alloc"))]
+pub fn tls_parser_many(i: &[u8]) -> IResult<&[u8], TlsRecords<'_>> {
+    norrabist::tls_parser_many(i).map_err(|refusal| error(i, refusal))
 }

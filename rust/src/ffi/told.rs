@@ -15,39 +15,50 @@ macro_rules! told {
     )*};
 }
 
-/// Makes what is told of a body, and the form in which it is kept until the value is looked at.
+/// What is told of a message, as it is kept until the value is looked at: its type, and each number
+/// of its body in a field of the same width; the others are 0.
 ///
-/// It is kept field by field: a copy of the whole goes through memory, and a field is then read
-/// back across the words that were stored, for which a processor waits.
-macro_rules! bodies {
-    ($($(#[$doc:meta])* struct $name:ident { $($field:ident: $of:ty,)* })*) => {
-        told! { $($(#[$doc])* struct $name { $($field: $of,)* })* }
+/// One form serves all bodies. Where each has a form of its own, the fields of one lie across those
+/// of another, and a field is put together of pieces, or read back across the words that were
+/// stored, for which a processor waits.
+#[derive(Clone, Copy)]
+pub struct Kept {
+    pub msg_type: u8,
+    size: usize,
+    word: u32,
+    first: u16,
+    second: u16,
+    third: u16,
+    byte: u8,
+    other: u8,
+    flag: bool,
+}
 
-        /// What is told of bodies, as it is kept.
-        pub mod kept {
-            $(
-                $(#[$doc])*
-                #[derive(Clone, Copy)]
-                pub struct $name {
-                    $(pub $field: $of,)*
-                }
+impl Kept {
+    /// A message of whose body nothing is told.
+    #[inline(always)]
+    pub const fn nothing(msg_type: u8) -> Kept {
+        Kept { msg_type, size: 0, word: 0, first: 0, second: 0, third: 0, byte: 0, other: 0, flag: false }
+    }
+}
 
-                impl $name {
-                    /// Keeps what was told.
-                    #[inline(always)]
-                    pub fn keep(told: super::$name) -> Self {
-                        $name { $($field: told.$field,)* }
-                    }
+/// Says in which field of what is kept each number of a body is.
+macro_rules! kept {
+    ($($name:ident { $($field:ident: $slot:ident),* })*) => {$(
+        impl $name {
+            /// Keeps what was told of a body that is accepted.
+            #[inline(always)]
+            pub fn keep(self, msg_type: u8) -> Kept {
+                Kept { $($slot: self.$field,)* ..Kept::nothing(msg_type) }
+            }
 
-                    /// What was told.
-                    #[inline(always)]
-                    pub fn told(self) -> super::$name {
-                        super::$name { $($field: self.$field,)* }
-                    }
-                }
-            )*
+            /// What was told.
+            #[inline(always)]
+            pub fn told(kept: Kept) -> Self {
+                $name { $($field: kept.$slot,)* number: 0 }
+            }
         }
-    };
+    )*};
 }
 
 told! {
@@ -58,13 +69,26 @@ told! {
         record_type: u8,
         number: u8,
     }
-    /// A handshake record's header, and the head of its first message.
+    /// A record's header; of a handshake record also the head of its first message, else 0.
     struct PlaintextHeadTold {
         version: u16,
         len: u16,
         body: u16,
+        record_type: u8,
         msg_type: u8,
         number: u8,
+    }
+    /// The head of a content's first message, where that is a handshake message, else 0.
+    struct ContentHeadTold {
+        body: u32,
+        msg_type: u8,
+        number: u8,
+    }
+    /// How many joined records there are, and where reading stopped; 0 and 0 where the first is
+    /// refused.
+    struct RecordsTold {
+        count: usize,
+        end: usize,
     }
     /// A message's head: where the next one begins, and the length of the body, which ends there.
     struct MessageHeadTold {
@@ -77,6 +101,18 @@ told! {
     struct TallyTold {
         count: usize,
         end: usize,
+    }
+    /// An alert.
+    struct AlertTold {
+        severity: u8,
+        code: u8,
+        number: u8,
+    }
+    /// A heartbeat: the length of the payload, and the type.
+    struct HeartbeatTold {
+        payload: u16,
+        heartbeat_type: u8,
+        number: u8,
     }
     /// An item of a list behind its length: where it begins, and the length. The next one begins
     /// where it ends.
@@ -101,7 +137,7 @@ told! {
     }
 }
 
-bodies! {
+told! {
     /// A ClientHello.
     struct ClientHelloTold {
         version: u16,
@@ -168,6 +204,22 @@ bodies! {
     }
 }
 
+kept! {
+    ClientHelloTold {
+        version: first, ciphers: second, ext: third, comp: byte, session_id: other, has_ext: flag
+    }
+    ServerHelloTold {
+        version: first, cipher: second, ext: third, compression: byte, session_id: other, has_ext: flag
+    }
+    HelloRetryRequestTold { version: first, cipher: second, ext: third, has_ext: flag }
+    NewSessionTicketTold { ticket: size, hint: word }
+    CertificateTold { chain: word }
+    CertificateRequestTold { pairs: first, names: second, types: byte, has_pairs: flag }
+    CertificateStatusTold { blob: word, status_type: byte }
+    NextProtocolTold { protocol: byte, padding: other }
+    KeyUpdateTold { request: byte }
+}
+
 /// Holds each to its size in C: at most two registers.
 macro_rules! sizes {
     ($($name:ident is $size:literal;)*) => {
@@ -177,9 +229,13 @@ macro_rules! sizes {
 
 sizes! {
     RecordHeadTold is 6;
-    PlaintextHeadTold is 8;
+    PlaintextHeadTold is 10;
+    ContentHeadTold is 8;
+    RecordsTold is 16;
     MessageHeadTold is 16;
     TallyTold is 16;
+    AlertTold is 3;
+    HeartbeatTold is 4;
     ItemTold is 16;
     NumberTold is 4;
     RefusalTold is 1;

@@ -2,6 +2,7 @@
 // text compiles with tls-parser 0.12.2 and with Norrabist. One function is one snippet.
 
 use tls::{Serialize, TlsMessage, TlsMessageHandshake, TlsPlaintext, TlsVersion};
+use tls::{TlsAlertDescription, TlsAlertSeverity, TlsHeartbeatMessageType, TlsMessageAlert};
 
 pub fn offers(mut i: &[u8]) -> Vec<u16> {
     let mut ids = Vec::new();
@@ -188,4 +189,116 @@ pub fn written_again(i: &[u8]) -> Option<Vec<u8>> {
 pub fn kept(i: &[u8]) -> Option<TlsPlaintext<'_>> {
     let (rest, record) = tls::parse_tls_plaintext(i).ok()?;
     rest.is_empty().then(|| record.clone())
+}
+
+pub fn told_by_kinds(mut i: &[u8]) -> Vec<&'static str> {
+    let mut kinds = Vec::new();
+    while let Ok((rest, record)) = tls::parse_tls_plaintext(i) {
+        for m in &record.msg {
+            match m {
+                TlsMessage::Handshake(..) => kinds.push("handshake"),
+                TlsMessage::Alert(ref a) if a.severity == TlsAlertSeverity::Fatal => kinds.push("fatal"),
+                TlsMessage::Alert(ref _a) => kinds.push("alert"),
+                TlsMessage::ChangeCipherSpec => kinds.push("change"),
+                TlsMessage::ApplicationData(..) => kinds.push("data"),
+                TlsMessage::Heartbeat(..) => kinds.push("heartbeat"),
+            }
+        }
+        i = rest;
+    }
+    kinds
+}
+
+pub fn alerts(i: &[u8]) -> Vec<(u8, u8)> {
+    let mut alerts = Vec::new();
+    if let Ok((_, record)) = tls::parse_tls_plaintext(i) {
+        for msg in record.msg.iter() {
+            if let TlsMessage::Alert(alert) = msg {
+                alerts.push((alert.severity.0, alert.code.0));
+            }
+        }
+    }
+    alerts
+}
+
+pub fn is_closed(record: &TlsPlaintext) -> bool {
+    record.msg.iter().any(|m| match m {
+        TlsMessage::Alert(a) => a.code == TlsAlertDescription::CloseNotify,
+        _ => false,
+    })
+}
+
+pub fn alert_in_words(a: &TlsMessageAlert) -> String {
+    let TlsMessageAlert { severity, code } = a;
+    format!("{severity} {code} {severity:?} {code:?} {a:?}")
+}
+
+pub fn an_alert(level: TlsAlertSeverity) -> TlsMessage<'static> {
+    let code = TlsAlertDescription::HandshakeFailure;
+    TlsMessage::Alert(TlsMessageAlert { severity: level, code })
+}
+
+pub fn bleeds(i: &[u8]) -> Option<bool> {
+    let (_, record) = tls::parse_tls_plaintext(i).ok()?;
+    for msg in &record.msg {
+        if let TlsMessage::Heartbeat(hb) = &msg {
+            let asks = hb.heartbeat_type == TlsHeartbeatMessageType::HeartBeatRequest;
+            return Some(asks && hb.payload.len() < usize::from(hb.payload_len));
+        }
+    }
+    None
+}
+
+pub fn one_by_its_type(i: &[u8]) -> Option<usize> {
+    let (_, hdr) = tls::parse_tls_record_header(i).ok()?;
+    let data = i.get(5..)?;
+    match hdr.record_type {
+        tls::TlsRecordType::ChangeCipherSpec => {
+            tls::parse_tls_message_changecipherspec(data).ok().map(|(rest, _)| rest.len())
+        }
+        tls::TlsRecordType::Alert => match tls::parse_tls_message_alert(data) {
+            Ok((rest, TlsMessage::Alert(alert))) => Some(rest.len() + usize::from(alert.severity.0)),
+            _ => None,
+        },
+        tls::TlsRecordType::ApplicationData => match tls::parse_tls_message_applicationdata(data) {
+            Ok((_, TlsMessage::ApplicationData(data))) => Some(data.blob.len()),
+            _ => None,
+        },
+        tls::TlsRecordType::Heartbeat => tls::parse_tls_message_heartbeat(data, hdr.len).ok().map(|_| 0),
+        _ => None,
+    }
+}
+
+pub fn behind_a_header(i: &[u8]) -> Option<usize> {
+    let (_, record) = tls::parse_tls_raw_record(i).ok()?;
+    let (rest, messages) = tls::parse_tls_record_with_header(record.data, &record.hdr).ok()?;
+    Some(messages.len() + messages.iter().count() + rest.len())
+}
+
+pub fn many_records(i: &[u8]) -> Option<usize> {
+    let mut messages = 0;
+    for record in tls::tls_parser_many(i).ok()?.1 {
+        for msg in &record.msg {
+            messages += match msg {
+                TlsMessage::Handshake(_) | TlsMessage::ChangeCipherSpec => 1,
+                _ => 0,
+            };
+        }
+    }
+    Some(messages)
+}
+
+pub fn many_counted(i: &[u8]) -> (usize, usize) {
+    match tls::tls_parser_many(i) {
+        Ok((rest, records)) => (records.iter().map(|record| record.msg.len()).sum(), rest.len()),
+        Err(_) => (0, i.len()),
+    }
+}
+
+pub fn many_in_a_vec(i: &[u8]) -> Vec<TlsPlaintext<'_>> {
+    let mut all = Vec::new();
+    if let Ok((_, records)) = tls::tls_parser_many(i) {
+        all.extend(records);
+    }
+    all
 }

@@ -8,7 +8,7 @@ use nom::multi::{many0, many1};
 use nom::number::streaming::be_u32;
 use nom::sequence::{pair, preceded};
 use nom::IResult;
-use tls::{TlsClientHelloContents, TlsRawRecord, TlsRecordType};
+use tls::{TlsClientHelloContents, TlsMessage, TlsPlaintext, TlsRawRecord, TlsRecordType};
 
 pub fn waits_for_more(i: &[u8]) -> bool {
     match tls::parse_tls_plaintext(i) {
@@ -109,4 +109,20 @@ pub fn raw_then_opened(i: &[u8]) -> IResult<&[u8], usize> {
 
 pub fn many_records(i: &[u8]) -> usize {
     tls::tls_parser_many(i).map_or(0, |(_, records)| records.iter().map(|record| record.msg.len()).sum())
+}
+
+pub fn alerts_or_changes(i: &[u8]) -> IResult<&[u8], Vec<TlsMessage<'_>>> {
+    many1(complete(alt((tls::parse_tls_message_alert, tls::parse_tls_message_changecipherspec))))(i)
+}
+
+pub fn opened_by_its_header<'a>(record: &TlsRawRecord<'a>) -> IResult<&'a [u8], Vec<TlsMessage<'a>>> {
+    tls::parse_tls_record_with_header(record.data, &record.hdr)
+}
+
+pub fn all_records(i: &[u8]) -> IResult<&[u8], Vec<TlsPlaintext<'_>>> {
+    let (rest, records) = tls::tls_parser_many(i)?;
+    match records[0].msg.first() {
+        Some(TlsMessage::Alert(_)) => Ok((rest, Vec::new())),
+        _ => Ok((rest, records)),
+    }
 }

@@ -9,6 +9,8 @@ use norrabist::*;
 macro_rules! table {
     (
         whole { $($whole:ident;)* }
+        headed { $($headed:ident;)* }
+        short { $($short:ident;)* }
         kinds { $(
             $kind:ident $(($value:ident))?
             $(, contents $contents:ident)?
@@ -20,6 +22,8 @@ macro_rules! table {
         /// The readers' names, in the order of the table.
         pub const READERS: &[&str] = &[
             $(stringify!($whole),)*
+            $(stringify!($headed),)*
+            $(stringify!($short),)*
             $($(stringify!($contents),)? $(stringify!($message),)? $(stringify!($sized),)?)*
         ];
 
@@ -28,6 +32,11 @@ macro_rules! table {
         pub fn read(name: &str, len: Option<usize>, i: &[u8]) -> Option<Vec<u64>> {
             Some(match (name, len) {
                 $((stringify!($whole), None) => told(i, $whole(i)),)*
+                $((stringify!($headed), None) => {
+                    let (hdr, content) = headed(i);
+                    told(content, $headed(content, &hdr))
+                })*
+                $((stringify!($short), Some(len)) => told(i, $short(i, len.try_into().ok()?)),)*
                 $(
                     $((stringify!($contents), None) => told(i, $contents(i)),)?
                     $((stringify!($message), None) => told(i, $message(i)),)?
@@ -62,7 +71,19 @@ table! {
         parse_tls_raw_record;
         parse_tls_encrypted;
         parse_tls_plaintext;
+        tls_parser_many;
         parse_tls_message_handshake;
+        parse_tls_message_changecipherspec;
+        parse_tls_message_alert;
+        parse_tls_message_applicationdata;
+    }
+    // of a content behind a record's header, which a case has before it
+    headed {
+        parse_tls_record_with_header;
+    }
+    // by a length of 16 bits
+    short {
+        parse_tls_message_heartbeat;
     }
     // the readers of bodies: of the contents alone, of a message, of a message by its length
     kinds {
@@ -97,6 +118,15 @@ table! {
     shared {
         ServerHelloV13Draft18(hello) = Tls13Draft18;
     }
+}
+
+/// A record's header, of which a byte that is not there is 0, and what stands behind it.
+pub fn headed(i: &[u8]) -> (TlsRecordHeader, &[u8]) {
+    let (head, content) = i.split_at(i.len().min(5));
+    let at = |k: usize| head.get(k).copied().unwrap_or(0);
+    let number = |k| u16::from_be_bytes([at(k), at(k + 1)]);
+    let (record_type, version) = (TlsRecordType(at(0)), TlsVersion(number(1)));
+    (TlsRecordHeader { record_type, version, len: number(3) }, content)
 }
 
 /// 0, the place of the rest and the values; or the number of the refusal alone.

@@ -1,6 +1,6 @@
 //! The text of a case and of its answer.
 
-/// A line of the recorded list.
+/// A line of the recorded list. What tls-parser answers, where it answers otherwise, is left aside.
 pub struct Line<'a> {
     pub function: &'a str,
     pub len: Option<usize>,
@@ -8,9 +8,10 @@ pub struct Line<'a> {
     pub answer: Vec<u64>,
 }
 
-/// Reads `FUNCTION LENGTH INPUT = ANSWER`.
+/// Reads `FUNCTION LENGTH INPUT = ANSWER`, or `.. = ANSWER / ANSWER`.
 pub fn line(text: &str) -> Option<Line<'_>> {
-    let (case, answer) = text.split_once(" = ")?;
+    let (case, answers) = text.split_once(" = ")?;
+    let answer = answers.split(" / ").next()?;
     let mut words = case.split(' ');
     let function = words.next()?;
     let len = match words.next()? {

@@ -9,6 +9,12 @@ pub trait Told {
     fn told(&self, s: &mut Sheet);
 }
 
+/// What the messages of other types of records are: Finished and KeyUpdate have the types 0x14 and
+/// 0x18 too.
+fn other(of: TlsRecordType) -> u16 {
+    0x0100 + u16::from(of.0)
+}
+
 /// How the fields of each value are told.
 macro_rules! told {
     ($($t:ty: ($value:ident, $s:ident) $told:block)*) => {$(
@@ -46,10 +52,36 @@ told! {
         s.size(r.count());
         r.msg.iter().for_each(|m| m.told(s));
     }
-    TlsMessage<'_>: (m, s) {
-        // no reader gives another: the case is answered short
-        if let TlsMessage::Handshake(m) = m {
+    TlsRecords<'_>: (all, s) {
+        s.size(all.len());
+        all.iter().for_each(|r| r.told(s));
+    }
+    TlsMessages<'_>: (all, s) {
+        s.size(all.len());
+        // not by `for_each`, so that both ways through messages are taken
+        for m in all {
             m.told(s);
+        }
+    }
+    TlsMessage<'_>: (m, s) {
+        match m {
+            TlsMessage::Handshake(m) => m.told(s),
+            TlsMessage::ChangeCipherSpec => s.number(other(TlsRecordType::ChangeCipherSpec)),
+            TlsMessage::Alert(m) => {
+                s.number(other(TlsRecordType::Alert));
+                s.number(m.severity.0);
+                s.number(m.code.0);
+            }
+            TlsMessage::ApplicationData(m) => {
+                s.number(other(TlsRecordType::ApplicationData));
+                s.part(m.blob);
+            }
+            TlsMessage::Heartbeat(m) => {
+                s.number(other(TlsRecordType::Heartbeat));
+                s.number(m.heartbeat_type.0);
+                s.number(m.payload_len);
+                s.part(m.payload);
+            }
         }
     }
     TlsClientHelloContents<'_>: (h, s) {

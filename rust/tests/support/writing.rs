@@ -54,6 +54,8 @@ writers! {
         let (hdr, content) = record(i)?;
         gen_tls_plaintext(&hdr, content, out)
     };
+    gen_tls_changecipherspec: (i, out) => i.is_empty().then(|| gen_tls_changecipherspec(out))?;
+    gen_tls_message: (i, out) => gen_tls_message(&message(i)?, out);
 }
 
 /// Numbers and lengths, and the parts behind all of them.
@@ -133,6 +135,29 @@ fn key(i: &[u8]) -> Option<TlsClientKeyExchangeContents<'_>> {
         [2, point @ ..] => Some(TlsClientKeyExchangeContents::Ecdh(ECPoint { point })),
         _ => None,
     }
+}
+
+/// A message of any record: the record's type, then a handshake message as it stands on the wire,
+/// nothing, level and description, the data, or type and payload.
+fn message(i: &[u8]) -> Option<TlsMessage<'_>> {
+    let (of, i) = i.split_first()?;
+    Some(match (TlsRecordType(*of), i) {
+        (TlsRecordType::Handshake, i) => parse_tls_message_handshake(i).ok()?.1,
+        (TlsRecordType::ChangeCipherSpec, []) => TlsMessage::ChangeCipherSpec,
+        (TlsRecordType::Alert, [severity, code]) => TlsMessage::Alert(TlsMessageAlert {
+            severity: TlsAlertSeverity(*severity),
+            code: TlsAlertDescription(*code),
+        }),
+        (TlsRecordType::ApplicationData, blob) => {
+            TlsMessage::ApplicationData(TlsMessageApplicationData { blob })
+        }
+        (TlsRecordType::Heartbeat, [heartbeat_type, payload @ ..]) => {
+            let payload_len = u16::try_from(payload.len()).ok()?;
+            let heartbeat_type = TlsHeartbeatMessageType(*heartbeat_type);
+            TlsMessage::Heartbeat(TlsMessageHeartbeat { heartbeat_type, payload_len, payload, padding: &[] })
+        }
+        _ => return None,
+    })
 }
 
 fn record(i: &[u8]) -> Option<(TlsRecordHeader, &[u8])> {
