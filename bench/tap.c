@@ -140,6 +140,23 @@ static uint8_t message(uint8_t msg_type, const uint8_t *i, size_t len, size_t *s
     }
 }
 
+/* The content of an accepted record that is no handshake record: what is in it. */
+static size_t other(uint8_t record_type, const uint8_t *i, uint16_t len) {
+    size_t k, seen = 0, count = norrabist_count_contents(record_type, i, len).count;
+
+    if (record_type == NORRABIST_APPLICATION_DATA)
+        return len;
+    if (record_type == NORRABIST_HEARTBEAT) {
+        norrabist_heartbeat_told heartbeat = norrabist_parse_tls_message_heartbeat(i, len, len);
+        return (size_t)heartbeat.heartbeat_type + heartbeat.payload;
+    }
+    if (record_type == NORRABIST_CHANGE_CIPHER_SPEC)
+        return count;
+    for (k = 0; k < count; k++)
+        seen += (size_t)i[norrabist_alert_start(k)] + i[norrabist_alert_start(k) + 1];
+    return seen;
+}
+
 /* The record at the front of `i`: adds what is in it to `sum` and answers where the one behind it
    begins; 0 where it is refused. */
 static size_t record(const uint8_t *i, size_t len, size_t *sum) {
@@ -147,10 +164,15 @@ static size_t record(const uint8_t *i, size_t len, size_t *sum) {
     const uint8_t *content;
     size_t seen = head.len, at = (size_t)NORRABIST_MESSAGE_HEAD_LEN + head.body;
 
-    if (head.number != NORRABIST_ACCEPTED ||
-        message(head.msg_type, i + NORRABIST_FIRST_BODY_AT, head.body, &seen) != NORRABIST_ACCEPTED)
+    if (head.number != NORRABIST_ACCEPTED)
         return 0;
     content = i + NORRABIST_RECORD_HEADER_LEN;
+    if (head.record_type != NORRABIST_HANDSHAKE) {
+        *sum += seen + other(head.record_type, content, head.len);
+        return norrabist_plaintext_head_next(head);
+    }
+    if (message(head.msg_type, i + NORRABIST_FIRST_BODY_AT, head.body, &seen) != NORRABIST_ACCEPTED)
+        return 0;
     while (at < head.len) {
         norrabist_message_head_told m = norrabist_parse_tls_message_head(content, head.len, at);
         if (m.number != NORRABIST_ACCEPTED ||

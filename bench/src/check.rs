@@ -33,7 +33,7 @@ fn changed() {
     let mut random = Random::new();
     let mut refused = 0;
     let inputs = [inputs::client_hellos(), inputs::server_hellos(), inputs::flights(), inputs::each_kind()];
-    let inputs = inputs.concat();
+    let inputs = [&inputs[..], &[inputs::other_types()]].concat().concat();
     for _ in 0..CHANGED {
         let input = change(&mut random, &inputs);
         let readings: [(&str, usize, Visit, Visit); 5] = [

@@ -16,7 +16,6 @@ enum Refusal {
     Tag,
     Switch,
     TooLarge,
-    Elsewhere,
 }
 use Refusal::*;
 
@@ -231,16 +230,74 @@ fn message(i: &[u8]) -> Taken<'_, usize> {
 }
 
 /// The messages up to the first that is refused; where that is the very first, its refusal.
-#[inline]
-fn messages(content: &[u8]) -> Result<usize, Refusal> {
+#[inline(always)]
+fn each_message(content: &[u8], one: impl Fn(&[u8]) -> Taken<'_, usize>) -> Result<usize, Refusal> {
     let (mut sum, mut i) = (0, content);
     loop {
-        match message(i) {
+        match one(i) {
             Ok((seen, rest)) => (sum, i) = (sum + seen, rest),
             Err(refusal) if i.len() == content.len() => return Err(refusal),
             Err(_) => return Ok(sum),
         }
     }
+}
+
+#[inline]
+fn messages(content: &[u8]) -> Result<usize, Refusal> {
+    each_message(content, message)
+}
+
+/// The levels of alerts, the types of heartbeats.
+#[inline]
+fn one_or_two(n: u8) -> Result<usize, Refusal> {
+    if matches!(n, 1 | 2) {
+        return Ok(usize::from(n));
+    }
+    Err(LengthValue)
+}
+
+/// The ChangeCipherSpec at the front (RULES 6.15).
+#[inline]
+fn change_cipher_spec(i: &[u8]) -> Taken<'_, usize> {
+    match array(i)? {
+        ([1], rest) => Ok((1, rest)),
+        _ => Err(LengthValue),
+    }
+}
+
+/// The alert at the front (RULES 6.16).
+#[inline]
+fn alert(i: &[u8]) -> Taken<'_, usize> {
+    let ([level], i) = array(i)?;
+    let level = one_or_two(*level)?;
+    let ([code], rest) = array(i)?;
+    Ok((level + usize::from(*code), rest))
+}
+
+/// The heartbeat that a content is (RULES 6.18).
+#[inline]
+fn heartbeat(i: &[u8]) -> Result<usize, Refusal> {
+    let ([of, len @ ..], i) = array::<3>(i)?;
+    let (of, len) = (one_or_two(*of)?, usize::from(u16::from_be_bytes(*len)));
+    if i.len() < len + MIN_PADDING_LEN {
+        return Err(LengthValue);
+    }
+    Ok(of + len)
+}
+
+/// The messages of a content, by the type of its record (RULES 6.9). Nothing is added up of those
+/// that are no handshake messages, as the other sides do it.
+#[inline]
+fn content(record_type: u8, i: &[u8]) -> Result<usize, Refusal> {
+    let seen = match record_type {
+        HANDSHAKE => messages(i),
+        CHANGE_CIPHER_SPEC => each_message(i, change_cipher_spec).map(|_| 0),
+        ALERT => each_message(i, alert).map(|_| 0),
+        APPLICATION_DATA => return Ok(0),
+        HEARTBEAT => return heartbeat(i).map(|_| 0),
+        _ => return Err(Switch),
+    };
+    seen.map_err(|refusal| if refusal == Incomplete { Complete } else { refusal })
 }
 
 #[inline]
@@ -250,17 +307,8 @@ fn plaintext(i: &[u8]) -> Taken<'_, usize> {
     if len > MAX_RECORD_LEN {
         return Err(TooLarge);
     }
-    let (content, rest) = take(i, len)?;
-    match *record_type {
-        HANDSHAKE => {}
-        CHANGE_CIPHER_SPEC | ALERT | APPLICATION_DATA | HEARTBEAT => return Err(Elsewhere),
-        _ => return Err(Switch),
-    }
-    match messages(content) {
-        Ok(seen) => Ok((len + seen, rest)),
-        Err(Incomplete) => Err(Complete),
-        Err(refusal) => Err(refusal),
-    }
+    let (i, rest) = take(i, len)?;
+    Ok((len + content(*record_type, i)?, rest))
 }
 
 /// The record at the front: what is behind it, and what was seen in it.

@@ -63,9 +63,13 @@ fn message(msg_type: u8, body: &[u8]) -> Vec<u8> {
 }
 
 fn record(content: &[u8]) -> Vec<u8> {
+    record_of(HANDSHAKE, content)
+}
+
+fn record_of(record_type: u8, content: &[u8]) -> Vec<u8> {
     assert!(content.len() <= MAX_RECORD_LEN);
     let version = TLS12.to_be_bytes();
-    [&[HANDSHAKE][..], &version, &u16_bytes(content.len()), content].concat()
+    [&[record_type][..], &version, &u16_bytes(content.len()), content].concat()
 }
 
 /// One ClientHello, 8,298 ciphers in 16,640 bytes.
@@ -134,6 +138,20 @@ pub fn each_kind() -> Vec<Vec<u8>> {
         short_round(),
     ];
     messages.iter().map(|content| record(content)).chain([record(&messages.concat())]).collect()
+}
+
+/// Records of the types that hold no handshake messages.
+pub fn other_types() -> Vec<Vec<u8>> {
+    vec![
+        record_of(CHANGE_CIPHER_SPEC, &[1]),
+        record_of(CHANGE_CIPHER_SPEC, &[1, 1, 1, 2]),
+        record_of(ALERT, &[2, 40]),
+        record_of(ALERT, &[1, 0, 2, 10, 1]),
+        record_of(APPLICATION_DATA, &[]),
+        record_of(APPLICATION_DATA, b"GET /"),
+        record_of(HEARTBEAT, &[&[1, 0, 4][..], &[8; 4], &[0; MIN_PADDING_LEN]].concat()),
+        record_of(HEARTBEAT, &[&[2, 0, 0][..], &[0; MIN_PADDING_LEN]].concat()),
+    ]
 }
 
 /// As many whole rounds as `len` bytes hold.

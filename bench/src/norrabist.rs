@@ -37,6 +37,7 @@ fn certificate(c: &TlsCertificateContents) -> usize {
 fn opened(m: &TlsMessage) -> usize {
     match m {
         TlsMessage::Handshake(m) => message(m),
+        // the classes hold handshake messages; a closure that looks at five cases is another one
         _ => 0,
     }
 }

@@ -31,3 +31,5 @@ pub const TLS13_DRAFT18: u16 = 0x7f12;
 pub const MAX_RECORD_LEN: usize = 0x4100;
 /// The longest session id.
 pub const MAX_ID_LEN: usize = 32;
+/// The shortest padding of a heartbeat.
+pub const MIN_PADDING_LEN: usize = 16;

@@ -21,14 +21,13 @@ pub fn read(case: &Case, to: &mut Vec<u64>) {
     table::read(case.function, &case.input, length, to);
 }
 
-/// Whether a plaintext record of any type is accepted: outside of the handshake neither the
-/// messages nor every refusal have numbers.
-pub fn is_opened(i: &[u8]) -> bool {
-    parse_tls_plaintext(i).is_ok()
-}
-
 /// 0, the place of the rest and the values; or the number of the refusal alone.
 pub fn told<T: Told>(to: &mut Vec<u64>, input: &[u8], got: IResult<&[u8], T>) {
+    told_by(to, input, got.map_err(|refused| refusal_of(&refused)));
+}
+
+/// The same of what is left and a value, or the number of a refusal.
+pub fn told_by<T: Told>(to: &mut Vec<u64>, input: &[u8], got: Result<(&[u8], T), u64>) {
     let mut sheet = Sheet::new(input, to);
     match got {
         Ok((rest, value)) => {
@@ -36,11 +35,22 @@ pub fn told<T: Told>(to: &mut Vec<u64>, input: &[u8], got: IResult<&[u8], T>) {
             sheet.place(rest);
             value.told(&mut sheet);
         }
-        Err(refused) => sheet.number(refusal(&refused)),
+        Err(number) => sheet.number(number),
     }
 }
 
-fn refusal(refused: &Err<Error<&[u8]>>) -> u64 {
+/// Of a writing 0, how many bytes and each of them; or the number of the refusal alone.
+pub fn wrote(to: &mut Vec<u64>, text: Result<Vec<u8>, u64>) {
+    match text {
+        Ok(bytes) => {
+            to.extend([0, bytes.len() as u64]);
+            to.extend(bytes.into_iter().map(u64::from));
+        }
+        Err(number) => to.push(number),
+    }
+}
+
+pub fn refusal_of(refused: &Err<Error<&[u8]>>) -> u64 {
     match refused {
         Err::Incomplete(_) => number::INCOMPLETE,
         Err::Error(e) | Err::Failure(e) => match e.code {
@@ -50,6 +60,7 @@ fn refusal(refused: &Err<Error<&[u8]>>) -> u64 {
             ErrorKind::Tag => number::TAG,
             ErrorKind::Switch => number::SWITCH,
             ErrorKind::TooLarge => number::TOO_LARGE,
+            ErrorKind::Many1 => number::MANY1,
             other => panic!("a refusal without a number: {other:?}"),
         },
     }

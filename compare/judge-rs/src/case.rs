@@ -34,6 +34,9 @@ impl FromStr for Case {
         if length.is_some() != table::is_sized(function) {
             return Err("a length where none goes, or none".into());
         }
+        if length > Some(table::longest(function)) {
+            return Err("a length that is too large".into());
+        }
         Ok(Case { function, length, input: text::read_input(words)? })
     }
 }

@@ -1,9 +1,11 @@
-//! How many answered cases there are, by function and by first number.
+//! How many answered cases there are, by function and by the first number of the answer that is to
+//! be given, and to how many tls-parser gives another.
 
 use crate::table::{refusal, READING, WRITING};
+use crate::text::PARTED;
 
 /// The first numbers of answers, and what they are.
-const HEADS: [(u64, &str); 9] = [
+const HEADS: [(u64, &str); 10] = [
     (0, "accepted"),
     (refusal::INCOMPLETE, "Incomplete"),
     (refusal::COMPLETE, "Complete"),
@@ -12,6 +14,7 @@ const HEADS: [(u64, &str); 9] = [
     (refusal::TAG, "Tag"),
     (refusal::SWITCH, "Switch"),
     (refusal::TOO_LARGE, "TooLarge"),
+    (refusal::BAD_LENGTH, "BadLength"),
     (refusal::NOT_YET_IMPLEMENTED, "NotYet"),
 ];
 const COLUMNS: usize = HEADS.len();
@@ -20,16 +23,20 @@ const ROWS: usize = READING.len() + WRITING.len();
 /// The table, with a last row of sums.
 pub fn table(lines: &[String]) -> String {
     let mut counts = [[0usize; COLUMNS]; ROWS];
+    let mut parted = [0usize; ROWS];
     for line in lines {
         let (row, column) = place(line).unwrap_or_else(|| panic!("no answered case: {line}"));
         counts[row][column] += 1;
+        parted[row] += usize::from(line.contains(PARTED));
     }
-    let mut out = row("function", HEADS.map(|(_, head)| head.into()), "all");
-    for (name, counts) in READING.into_iter().chain(WRITING).zip(counts) {
-        out += &row(name, counts.map(|n| n.to_string()), &counts.iter().sum::<usize>().to_string());
+    let mut out = row("function", HEADS.map(|(_, head)| head.into()), "all", "parted");
+    for ((name, counts), parted) in READING.into_iter().chain(WRITING).zip(counts).zip(parted) {
+        let sum: usize = counts.iter().sum();
+        out += &row(name, counts.map(|n| n.to_string()), &sum.to_string(), &parted.to_string());
     }
     let sums: [usize; COLUMNS] = std::array::from_fn(|k| counts.iter().map(|c| c[k]).sum());
-    out + &row("all", sums.map(|n| n.to_string()), &lines.len().to_string())
+    let parted: usize = parted.iter().sum();
+    out + &row("all", sums.map(|n| n.to_string()), &lines.len().to_string(), &parted.to_string())
 }
 
 /// The row of a line's function and the column of its answer.
@@ -41,7 +48,7 @@ fn place(line: &str) -> Option<(usize, usize)> {
     Some((row, HEADS.iter().position(|(n, _)| *n == number)?))
 }
 
-fn row(name: &str, cells: [String; COLUMNS], sum: &str) -> String {
+fn row(name: &str, cells: [String; COLUMNS], sum: &str, parted: &str) -> String {
     let cells: String = cells.iter().map(|c| format!("{c:>12}")).collect();
-    format!("{name:<44}{cells}{sum:>8}\n")
+    format!("{name:<44}{cells}{sum:>8}{parted:>8}\n")
 }

@@ -1,7 +1,7 @@
 //! What may be written (RULES 7): the comparison is of this alone, since outside it Norrabist
 //! refuses and tls-parser writes a wrong length (`judge truncations`).
 
-use crate::made::{Client, Draft, Key, Record, Server};
+use crate::made::{Client, Draft, Key, Message, Record, Server};
 use crate::{case::Case, table, table::limit, write};
 
 /// No input of a case is longer, and no text that is written.
@@ -58,4 +58,17 @@ pub fn again(m: &[u8]) -> bool {
 
 pub fn record(m: &Record) -> bool {
     m.content.len() <= limit::RECORD && write::is_written(m.content)
+}
+
+pub fn cipher_spec(m: &[u8]) -> bool {
+    m.is_empty()
+}
+
+/// An alert of any level is asked for: BadLength is an answer to compare.
+pub fn any(m: &Message) -> bool {
+    match m {
+        Message::Handshake(m) => again(m),
+        Message::Heartbeat { payload, .. } => u16::try_from(payload.len()).is_ok(),
+        _ => true,
+    }
 }

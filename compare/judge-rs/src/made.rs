@@ -1,8 +1,10 @@
-//! Made-up values for the writers, and the bytes by which a case says them.
+//! Made-up values for the writers, and the bytes by which a case says them; and a record's header
+//! before the content that it is handed over with.
 
 use crate::bytes::join;
 use crate::container::{Heard, Said};
-use crate::table::form;
+use crate::table::{form, record_type};
+use tls_parser::{TlsRecordHeader, TlsRecordType, TlsVersion};
 
 #[derive(Clone, Copy)]
 pub struct Client<'a> {
@@ -47,6 +49,29 @@ pub enum Key<'a> {
 pub struct Record<'a> {
     pub record_type: u8,
     pub version: u16,
+    pub content: &'a [u8],
+}
+
+/// A message of any record; the record's type is its first byte.
+#[derive(Clone, Copy)]
+pub enum Message<'a> {
+    /// As it stands on the wire.
+    Handshake(&'a [u8]),
+    ChangeCipherSpec,
+    Alert {
+        severity: u8,
+        code: u8,
+    },
+    ApplicationData(&'a [u8]),
+    Heartbeat {
+        heartbeat_type: u8,
+        payload: &'a [u8],
+    },
+}
+
+/// A header of five bytes, and the content that is read by it, as long as the header says or not.
+pub struct Headed<'a> {
+    pub hdr: TlsRecordHeader,
     pub content: &'a [u8],
 }
 
@@ -150,5 +175,43 @@ impl<'a> Record<'a> {
     pub fn read(i: &'a [u8]) -> Self {
         let [record_type, high, low, content @ ..] = i else { panic!("no record") };
         Record { record_type: *record_type, version: u16::from_be_bytes([*high, *low]), content }
+    }
+}
+
+impl<'a> Message<'a> {
+    pub fn bytes(&self) -> Vec<u8> {
+        match self {
+            Message::Handshake(m) => join(&[&[record_type::HANDSHAKE], m]),
+            Message::ChangeCipherSpec => vec![record_type::CHANGE_CIPHER_SPEC],
+            Message::Alert { severity, code } => vec![record_type::ALERT, *severity, *code],
+            Message::ApplicationData(blob) => join(&[&[record_type::APPLICATION_DATA], blob]),
+            Message::Heartbeat { heartbeat_type, payload } => {
+                join(&[&[record_type::HEARTBEAT, *heartbeat_type], payload])
+            }
+        }
+    }
+
+    pub fn read(i: &'a [u8]) -> Self {
+        match *i {
+            [record_type::HANDSHAKE, ref m @ ..] => Message::Handshake(m),
+            [record_type::CHANGE_CIPHER_SPEC] => Message::ChangeCipherSpec,
+            [record_type::ALERT, severity, code] => Message::Alert { severity, code },
+            [record_type::APPLICATION_DATA, ref blob @ ..] => Message::ApplicationData(blob),
+            [record_type::HEARTBEAT, heartbeat_type, ref payload @ ..] => {
+                Message::Heartbeat { heartbeat_type, payload }
+            }
+            _ => panic!("no message"),
+        }
+    }
+}
+
+impl<'a> Headed<'a> {
+    /// A byte of the header that is not there is 0.
+    pub fn read(i: &'a [u8]) -> Self {
+        let (head, content) = i.split_at(i.len().min(5));
+        let at = |k: usize| head.get(k).copied().unwrap_or(0);
+        let number = |k| u16::from_be_bytes([at(k), at(k + 1)]);
+        let (record_type, version) = (TlsRecordType(at(0)), TlsVersion(number(1)));
+        Headed { hdr: TlsRecordHeader { record_type, version, len: number(3) }, content }
     }
 }

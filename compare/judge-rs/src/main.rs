@@ -1,16 +1,18 @@
 //! The commands of the judge.
 
-use judge::{answer::answer, apart, case::Case, count, generate, text, truncations};
+use judge::{account, answer::answer, apart, case::Case, count, generate, text, truncations};
+use judge::{account::Stands, text::PARTED};
 use std::io::{self, BufRead, BufWriter, Write};
 use std::panic::{catch_unwind, AssertUnwindSafe};
 use std::process::exit;
 
 const USAGE: &str = "judge generate SEED COUNT          prints COUNT cases of the readers
 judge generate-writes SEED COUNT   prints COUNT cases of the writers
-judge answer                       reads cases, prints them with tls-parser's answers
+judge answer                       reads cases, prints them with their answers, and with
+                                   tls-parser's where it gives another
 judge count                        reads answered cases, prints a table of them
 judge truncations                  prints what tls-parser writes outside the domain
-judge apart                        prints two answers of tls-parser that no case asks for";
+judge apart                        prints an answer of tls-parser that no case asks for";
 
 fn main() -> io::Result<()> {
     let words: Vec<String> = std::env::args().skip(1).collect();
@@ -48,11 +50,28 @@ fn print_answers() -> io::Result<()> {
         let line = line?;
         let case: Case = line.parse().unwrap_or_else(|e| stop(&line, e));
         // A panic here is tls-parser's, or an answer that the text cannot say.
-        let numbers = catch_unwind(AssertUnwindSafe(|| answer(&case)))
-            .unwrap_or_else(|_| stop(&line, "no answer".into()));
-        writeln!(out, "{case} = {}", text::numbers(&numbers))?;
+        let numbers = catch_unwind(AssertUnwindSafe(|| answers(&case)))
+            .unwrap_or_else(|_| stop(&line, "no answer".into()))
+            .unwrap_or_else(|amiss| stop(&line, amiss));
+        writeln!(out, "{case} = {numbers}")?;
     }
     Ok(())
+}
+
+/// The answer that is to be given, and behind it that of tls-parser where the two part.
+fn answers(case: &Case) -> Result<String, String> {
+    let theirs = answer(case);
+    if !account::is_kept(case) {
+        return Ok(text::numbers(&theirs));
+    }
+    let mut ours = Vec::new();
+    let stands = account::of(case, &theirs, &mut ours);
+    let (ours, theirs) = (text::numbers(&ours), text::numbers(&theirs));
+    match stands {
+        Stands::Alike => Ok(ours),
+        Stands::Parted(_) => Ok([ours, theirs].join(PARTED)),
+        Stands::Amiss => Err(format!("tls-parser gives {theirs}, which is neither {ours} nor listed")),
+    }
 }
 
 fn print_counts() -> io::Result<()> {

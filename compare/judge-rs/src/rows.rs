@@ -5,6 +5,8 @@
 macro_rules! table {
     (
         whole { $($whole:ident = $whole_fn:ident;)* }
+        headed { $($headed:ident = $headed_fn:ident;)* }
+        short { $($short:ident = $short_fn:ident;)* }
         kinds { $(
             $kind:ident $(($value:ident))? = $type:literal
             $(, contents $contents:ident = $contents_fn:ident)?
@@ -15,6 +17,8 @@ macro_rules! table {
         writers { $($writer:ident = $writer_fn:ident, $write:ident($made:ident);)* }
     ) => {
         $(pub const $whole: &str = stringify!($whole_fn);)*
+        $(pub const $headed: &str = stringify!($headed_fn);)*
+        $(pub const $short: &str = stringify!($short_fn);)*
         $(
             $(pub const $contents: &str = stringify!($contents_fn);)?
             $(pub const $message: &str = stringify!($message_fn);)?
@@ -23,14 +27,18 @@ macro_rules! table {
         $(pub const $writer: &str = stringify!($writer_fn);)*
 
         /// The readers, in the order of the table.
-        pub const READING: [&str; [$($whole,)* $($($contents,)? $($message,)? $($sized,)?)*].len()] =
-            [$($whole,)* $($($contents,)? $($message,)? $($sized,)?)*];
+        pub const READING: [&str; [
+            $($whole,)* $($headed,)* $($short,)* $($($contents,)? $($message,)? $($sized,)?)*
+        ].len()] = [$($whole,)* $($headed,)* $($short,)* $($($contents,)? $($message,)? $($sized,)?)*];
 
         /// The writers, in the order of the table.
         pub const WRITING: [&str; [$($writer),*].len()] = [$($writer),*];
 
         /// The readers that take a length besides the bytes.
         pub const SIZED: [&str; [$($($sized,)?)*].len()] = [$($($sized,)?)*];
+
+        /// Those that take one of 16 bits.
+        pub const SHORT: [&str; [$($short),*].len()] = [$($short),*];
 
         /// The handshake types of the kinds (RULES 5).
         #[allow(non_upper_case_globals)]
@@ -54,6 +62,11 @@ macro_rules! table {
         pub fn read(name: &str, i: &[u8], length: usize, to: &mut Vec<u64>) {
             match name {
                 $($whole => told(to, i, $whole_fn(i)),)*
+                $($headed => {
+                    let Headed { hdr, content } = Headed::read(i);
+                    told(to, content, $headed_fn(content, &hdr))
+                })*
+                $($short => told(to, i, $short_fn(i, length)),)*
                 $(
                     $($contents => told(to, i, $contents_fn(i)),)?
                     $($message => told(to, i, $message_fn(i)),)?

@@ -3,7 +3,8 @@
 //! which `values.rs` tells. `rows.rs` says what is made of the rows.
 
 use crate::answer::told;
-use crate::made::{Client, Draft, Key, Part, Record, Server};
+use crate::asked::{parse_tls_message_applicationdata, parse_tls_message_heartbeat};
+use crate::made::{Client, Draft, Headed, Key, Message, Part, Record, Server};
 use crate::rows::table;
 use crate::values::Told;
 use crate::{domain, sheet::Sheet, write};
@@ -17,8 +18,19 @@ pub mod record_type {
     pub const APPLICATION_DATA: u8 = 0x17;
     pub const HEARTBEAT: u8 = 0x18;
 
-    /// Those that tls-parser opens and Norrabist leaves to others.
-    pub const ELSEWHERE: [u8; 4] = [CHANGE_CIPHER_SPEC, ALERT, APPLICATION_DATA, HEARTBEAT];
+    /// Those that hold no handshake messages.
+    pub const OTHERS: [u8; 4] = [CHANGE_CIPHER_SPEC, ALERT, APPLICATION_DATA, HEARTBEAT];
+}
+
+/// What the messages of the other types of records are in an answer: 0x0100 and the record's type,
+/// since Finished and KeyUpdate have the types 0x14 and 0x18 too.
+pub mod other {
+    use super::record_type;
+
+    pub const CHANGE_CIPHER_SPEC: u16 = 0x0100 + record_type::CHANGE_CIPHER_SPEC as u16;
+    pub const ALERT: u16 = 0x0100 + record_type::ALERT as u16;
+    pub const APPLICATION_DATA: u16 = 0x0100 + record_type::APPLICATION_DATA as u16;
+    pub const HEARTBEAT: u16 = 0x0100 + record_type::HEARTBEAT as u16;
 }
 
 /// The versions (RULES 3).
@@ -49,6 +61,8 @@ pub mod limit {
     pub const DH: usize = 0xffff;
     pub const POINT: usize = 0xff;
     pub const BODY: usize = 0xff_ffff;
+    /// Of a heartbeat's padding, at least.
+    pub const PADDING: usize = 16;
 }
 
 /// The numbers of refusals (RULES 1).
@@ -62,9 +76,11 @@ pub mod refusal {
     pub const TOO_LARGE: u64 = 7;
     pub const BAD_LENGTH: u64 = 8;
     pub const NO_ROOM: u64 = 9;
-    pub const ELSEWHERE: u64 = 10;
     pub const NO_SUCH: u64 = 11;
     pub const NOT_YET_IMPLEMENTED: u64 = 12;
+
+    /// nom's Many1, which tls-parser alone gives: no number of the table.
+    pub const MANY1: u64 = 100;
 }
 
 table! {
@@ -74,7 +90,19 @@ table! {
         RAW = parse_tls_raw_record;
         ENCRYPTED = parse_tls_encrypted;
         PLAINTEXT = parse_tls_plaintext;
+        MANY = tls_parser_many;
         MESSAGE = parse_tls_message_handshake;
+        MESSAGE_CIPHER_SPEC = parse_tls_message_changecipherspec;
+        MESSAGE_ALERT = parse_tls_message_alert;
+        MESSAGE_DATA = parse_tls_message_applicationdata;
+    }
+    // of a content behind a record's header, which a case has before it
+    headed {
+        WITH_HEADER = parse_tls_record_with_header;
+    }
+    // by a length of 16 bits
+    short {
+        MESSAGE_HEARTBEAT = parse_tls_message_heartbeat;
     }
     // the readers of bodies: of the contents alone, of a message, of a message by its length
     kinds {
@@ -130,6 +158,19 @@ table! {
         // not public in tls-parser: `Serialize` of a message calls it
         GEN_MESSAGE = gen_tls_messagehandshake, again(Part);
         GEN_PLAINTEXT = gen_tls_plaintext, record(Record);
+        GEN_CIPHER_SPEC = gen_tls_changecipherspec, cipher_spec(Part);
+        GEN_ANY = gen_tls_message, any(Message);
+    }
+}
+
+/// The functions that read a message of a record that is no handshake record.
+pub fn of_record(of: u8) -> &'static [&'static str] {
+    match of {
+        record_type::CHANGE_CIPHER_SPEC => &[MESSAGE_CIPHER_SPEC],
+        record_type::ALERT => &[MESSAGE_ALERT],
+        record_type::APPLICATION_DATA => &[MESSAGE_DATA],
+        record_type::HEARTBEAT => &[MESSAGE_HEARTBEAT],
+        _ => &[],
     }
 }
 
@@ -145,5 +186,13 @@ pub fn is_writer(name: &str) -> bool {
 
 /// Whether that function takes a length besides the bytes.
 pub fn is_sized(name: &str) -> bool {
-    SIZED.contains(&name)
+    SIZED.contains(&name) || SHORT.contains(&name)
+}
+
+/// The most that its length can say.
+pub fn longest(name: &str) -> u64 {
+    if SHORT.contains(&name) {
+        return u16::MAX.into();
+    }
+    u64::MAX
 }

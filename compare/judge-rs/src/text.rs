@@ -2,6 +2,9 @@
 
 use crate::bytes::hex;
 
+/// What stands before the answer of tls-parser where it is not the one to give.
+pub const PARTED: &str = " / ";
+
 const INPUT_RUN: usize = 16;
 const ANSWER_RUN: usize = 8;
 

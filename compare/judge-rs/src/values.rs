@@ -1,6 +1,7 @@
 //! tls-parser's values on the sheet, field by field.
 
 use crate::sheet::Sheet;
+use crate::table::other;
 use tls_parser::*;
 
 /// A value that has numbers in an answer.
@@ -43,14 +44,39 @@ told! {
     }
     TlsPlaintext<'_>: (r, s) {
         r.hdr.told(s);
-        s.size(r.msg.len());
-        r.msg.iter().for_each(|m| m.told(s));
+        r.msg.told(s);
+    }
+    Vec<TlsPlaintext<'_>>: (all, s) {
+        s.size(all.len());
+        all.iter().for_each(|r| r.told(s));
+    }
+    Vec<TlsMessage<'_>>: (all, s) {
+        s.size(all.len());
+        all.iter().for_each(|m| m.told(s));
     }
     TlsMessage<'_>: (m, s) {
         match m {
             TlsMessage::Handshake(m) => m.told(s),
-            _ => panic!("a message that is not of the handshake"),
+            TlsMessage::ChangeCipherSpec => s.number(other::CHANGE_CIPHER_SPEC),
+            TlsMessage::Alert(m) => m.told(s),
+            TlsMessage::ApplicationData(m) => m.told(s),
+            TlsMessage::Heartbeat(m) => m.told(s),
         }
+    }
+    TlsMessageAlert: (a, s) {
+        s.number(other::ALERT);
+        s.number(a.severity.0);
+        s.number(a.code.0);
+    }
+    TlsMessageApplicationData<'_>: (d, s) {
+        s.number(other::APPLICATION_DATA);
+        s.part(d.blob);
+    }
+    TlsMessageHeartbeat<'_>: (h, s) {
+        s.number(other::HEARTBEAT);
+        s.number(h.heartbeat_type.0);
+        s.number(h.payload_len);
+        s.part(h.payload);
     }
     TlsClientHelloContents<'_>: (h, s) {
         accessors(h);

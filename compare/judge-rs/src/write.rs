@@ -1,8 +1,8 @@
 //! What tls-parser writes.
 
-use crate::made::{Client, Draft, Key, Record, Server};
+use crate::made::{Client, Draft, Key, Message, Record, Server};
 use crate::table::{self, refusal};
-use crate::{case::Case, domain};
+use crate::{answer::wrote, case::Case, domain};
 use cookie_factory::gen_simple;
 use tls_parser::*;
 
@@ -12,13 +12,10 @@ pub type Written = Result<Vec<u8>, GenError>;
 /// domain.
 pub fn answer(case: &Case) -> Vec<u64> {
     domain::hold(case);
-    match text(case) {
-        Ok(bytes) => {
-            assert!(bytes.len() < domain::ROOM, "a text of {} bytes", bytes.len());
-            [0, bytes.len() as u64].into_iter().chain(bytes.into_iter().map(u64::from)).collect()
-        }
-        Err(number) => vec![number],
-    }
+    let mut numbers = Vec::new();
+    wrote(&mut numbers, text(case));
+    assert!(numbers.len() < domain::ROOM + 2, "a text of {} bytes", numbers.len() - 2);
+    numbers
 }
 
 /// The bytes that are written for the value of a case, in the domain or not; or the number of the
@@ -76,6 +73,29 @@ pub fn finished(m: &[u8]) -> Written {
 /// The first message, read and written again.
 pub fn again(i: &[u8]) -> Written {
     message(i).expect("a message").1.serialize()
+}
+
+pub fn cipher_spec(_: &[u8]) -> Written {
+    gen_simple(gen_tls_changecipherspec(), Vec::new())
+}
+
+/// A message of any record; of the handshake the first one, read and written again.
+pub fn any(m: &Message) -> Written {
+    let m = match *m {
+        Message::Handshake(i) => TlsMessage::Handshake(message(i).expect("a message").1),
+        Message::ChangeCipherSpec => TlsMessage::ChangeCipherSpec,
+        Message::Alert { severity, code } => TlsMessage::Alert(TlsMessageAlert {
+            severity: TlsAlertSeverity(severity),
+            code: TlsAlertDescription(code),
+        }),
+        Message::ApplicationData(blob) => TlsMessage::ApplicationData(TlsMessageApplicationData { blob }),
+        Message::Heartbeat { heartbeat_type, payload } => TlsMessage::Heartbeat(TlsMessageHeartbeat {
+            heartbeat_type: TlsHeartbeatMessageType(heartbeat_type),
+            payload_len: u16::try_from(payload.len()).expect("a payload of 16 bits"),
+            payload,
+        }),
+    };
+    gen_simple(gen_tls_message(&m), Vec::new())
 }
 
 /// The first message as tls-parser reads it, and what stands behind it.

@@ -1,15 +1,15 @@
-//! The generator's cases, and records of the types that are opened elsewhere.
+//! The generator's cases, and handshake messages in records of other types.
 
 use judge::case::Case;
 use judge::generate;
 use judge::rng::Rng;
-use judge::table::record_type::ELSEWHERE;
+use judge::table::record_type::OTHERS;
 use judge::table::PLAINTEXT;
 use std::io;
 
 type Out<'a> = &'a mut dyn FnMut(&Case) -> io::Result<()>;
 
-/// One in so many plaintext records gets a type that is opened elsewhere.
+/// One in so many plaintext records gets another type.
 const SHARE: usize = 16;
 
 pub fn readings(seed: u64, many: u64, out: Out) -> io::Result<()> {
@@ -19,7 +19,7 @@ pub fn readings(seed: u64, many: u64, out: Out) -> io::Result<()> {
             return out(case);
         }
         let mut other = case.clone();
-        other.input[0] = *rng.pick(&ELSEWHERE);
+        other.input[0] = *rng.pick(&OTHERS);
         out(&other)
     })
 }

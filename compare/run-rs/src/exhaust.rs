@@ -3,8 +3,7 @@
 use crate::families::{all, Family, Frame};
 use judge::bytes::{message, record};
 use judge::case::Case;
-use judge::table::is_sized;
-use judge::table::record_type::HANDSHAKE;
+use judge::table::{is_sized, longest};
 use std::io;
 
 type Out<'a> = &'a mut dyn FnMut(&Case) -> io::Result<()>;
@@ -20,8 +19,8 @@ pub fn run(out: Out) -> io::Result<()> {
 
 /// Every input of the family for a function; with every length where it takes one.
 fn every(family: &Family, function: &'static str, out: Out) -> io::Result<()> {
-    let lengths: Vec<Option<u64>> =
-        if is_sized(function) { family.lengths.iter().copied().map(Some).collect() } else { vec![None] };
+    let sized = family.lengths.iter().copied().filter(|n| *n <= longest(function)).map(Some);
+    let lengths: Vec<Option<u64>> = if is_sized(function) { sized.collect() } else { vec![None] };
     for n in 0..=family.most {
         let mut case = Case { function, length: None, input: family.first(n) };
         let mut digits = vec![0; n];
@@ -58,7 +57,7 @@ impl Family {
         match self.frame {
             Frame::Bare => word,
             Frame::Message(handshake_type) => message(handshake_type, &word),
-            Frame::Record => record(HANDSHAKE, &word),
+            Frame::Record(record_type) => record(record_type, &word),
         }
     }
 }

@@ -1,7 +1,8 @@
 //! Families of short inputs that are taken to the last one: given bytes, then every
 //! word over a few letters, those that matter where they stand.
 
-use judge::table::record_type::{CHANGE_CIPHER_SPEC, HANDSHAKE, HEARTBEAT};
+use judge::bytes::be;
+use judge::table::record_type::{ALERT, APPLICATION_DATA, CHANGE_CIPHER_SPEC, HANDSHAKE, HEARTBEAT};
 use judge::table::version::{DRAFT_18, SSL30, TLS10, TLS11, TLS12, TLS13};
 use judge::table::*;
 
@@ -22,7 +23,7 @@ pub struct Family {
 pub enum Frame {
     Bare,
     Message(u8),
-    Record,
+    Record(u8),
 }
 
 const BYTES: [u8; 256] = {
@@ -44,6 +45,8 @@ const HELLO: &[u8] = &[0, 1, 2, 3, 0x20, 0x21, 0xff];
 pub fn all() -> Vec<Family> {
     let mut all = vec![bare(&READING, &[], &BYTES, 2)];
     records(&mut all);
+    contents(&mut all);
+    heartbeats(&mut all);
     messages(&mut all);
     clients(&mut all);
     servers(&mut all);
@@ -66,12 +69,38 @@ fn records(all: &mut Vec<Family>) {
     all.push(bare(&[HEADER, RAW, ENCRYPTED, PLAINTEXT], &[], &[0, 1, 3, HANDSHAKE, 0x41, 0xff], 5));
     for record_type in CHANGE_CIPHER_SPEC - 1..=HEARTBEAT + 1 {
         let head = [record_type, 0x03, 0x01];
-        all.push(bare(&[RAW, ENCRYPTED, PLAINTEXT], &head, &[0, 1, 2, 0x40, 0x41, 0xff], 4));
+        all.push(bare(&[RAW, ENCRYPTED, PLAINTEXT, MANY], &head, &[0, 1, 2, 0x40, 0x41, 0xff], 4));
         let head = [record_type, 0x03, 0x01, 0];
-        all.push(bare(&[PLAINTEXT], &head, &[0, 1, 4, 5, kind::ServerDone], 6));
+        all.push(bare(&[PLAINTEXT, WITH_HEADER, MANY], &head, &[0, 1, 4, 5, kind::ServerDone], 6));
     }
-    all.push(framed(Frame::Record, &[PLAINTEXT], &[0, 1, 4, kind::ServerDone], 9));
-    all.push(framed(Frame::Record, &[PLAINTEXT], MESSAGES, 6));
+    all.push(framed(Frame::Record(HANDSHAKE), &[PLAINTEXT], &[0, 1, 4, kind::ServerDone], 9));
+    all.push(framed(Frame::Record(HANDSHAKE), &[PLAINTEXT, WITH_HEADER], MESSAGES, 6));
+}
+
+/// What opens a record's content.
+const OPENING: &[&str] = &[PLAINTEXT, WITH_HEADER, MANY];
+
+/// Contents of the records that are no handshake records.
+fn contents(all: &mut Vec<Family>) {
+    all.push(framed(Frame::Record(CHANGE_CIPHER_SPEC), OPENING, FEW, 8));
+    all.push(framed(Frame::Record(ALERT), OPENING, SMALL, 6));
+    all.push(framed(Frame::Record(APPLICATION_DATA), OPENING, FEW, 6));
+    all.push(framed(Frame::Record(HEARTBEAT), OPENING, SMALL, 5));
+    all.push(bare(&[MESSAGE_CIPHER_SPEC, MESSAGE_ALERT, MESSAGE_DATA], &[], SMALL, 6));
+}
+
+/// Heartbeats of 16 to 24 bytes: every small type and length of the payload.
+fn heartbeats(all: &mut Vec<Family>) {
+    let lengths = &[0, 1, 2, 3, 4, 16, 17, 18, 19, 20, 21, 22, 23, 24, 25, 0xffff];
+    for of in SMALL {
+        for payload in (0..=6).chain([0x0100, 0x0101, 0xff00]) {
+            let before = [&[*of], &be(2, payload)[..], &[7; 13]].concat();
+            let heartbeat = bare(&[MESSAGE_HEARTBEAT], &before, &[7], 8);
+            all.push(Family { lengths, ..heartbeat });
+            let frame = Frame::Record(HEARTBEAT);
+            all.push(Family { frame, ..bare(OPENING, &before, &[7], 8) });
+        }
+    }
 }
 
 /// Every type, and for those that are opened short bodies.

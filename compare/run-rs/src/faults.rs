@@ -1,5 +1,6 @@
 //! Wrong answers, laid over right ones.
 
+mod others;
 mod randoms;
 mod readings;
 mod writings;
@@ -61,7 +62,7 @@ impl<P: Norrabist> Norrabist for Faulty<P> {
 }
 
 /// What is wrong, and how it is made.
-pub const ALL: [(&str, Fault); 29] = [
+pub const ALL: [(&str, Fault); 49] = [
     ("the rest one byte further", Fault::Reading(readings::rest)),
     ("another refusal", Fault::Reading(readings::refusal)),
     ("a refusal for a value", Fault::Reading(readings::refused)),
@@ -75,7 +76,22 @@ pub const ALL: [(&str, Fault); 29] = [
     ("the last message of a record left out", Fault::Reading(readings::message)),
     ("a number too many", Fault::Reading(readings::more)),
     ("a huge length taken as 0", Fault::Reading(readings::huge)),
-    ("an alert record as Switch", Fault::Reading(readings::alert)),
+    ("an alert record as Switch", Fault::Reading(others::record)),
+    ("a ChangeCipherSpec of any byte", Fault::Reading(others::cipher_spec)),
+    ("the level of an alert behind its description", Fault::Reading(others::level)),
+    ("the description of an alert as its level", Fault::Reading(others::description)),
+    ("application data one byte short", Fault::Reading(others::data)),
+    ("a record of application data as Many1", Fault::Reading(others::many1)),
+    ("a heartbeat with 15 bytes of padding", Fault::Reading(others::padding)),
+    ("the rest of a heartbeat before its padding", Fault::Reading(others::before)),
+    ("the type of a heartbeat before its length", Fault::Reading(others::early)),
+    ("the length of a header looked at", Fault::Reading(others::header)),
+    ("the last alert of a record left out", Fault::Reading(others::last)),
+    ("an empty record of alerts as Incomplete", Fault::Reading(others::empty)),
+    ("a heartbeat of two bytes as Complete", Fault::Reading(others::short)),
+    ("the first of many records as Incomplete", Fault::Reading(others::first)),
+    ("a record of many too many", Fault::Reading(others::more)),
+    ("many records that end before their end", Fault::Reading(others::end)),
     ("a byte too many told as dropped", Fault::Walk(readings::dropped)),
     ("a walk that ends with Incomplete", Fault::Walk(readings::ended)),
     ("the first bytes of a longer random as its time", Fault::Random(randoms::longer)),
@@ -83,6 +99,7 @@ pub const ALL: [(&str, Fault); 29] = [
     ("the bytes of a random from the fourth on", Fault::Random(randoms::early)),
     ("a panic of Norrabist", Fault::Reading(readings::panic)),
     ("a panic of tls-parser", Fault::TlsParser(readings::panic)),
+    ("an answer of tls-parser that no difference has", Fault::TlsParser(others::amiss)),
     ("a written byte changed", Fault::Writing(writings::byte)),
     ("a byte written behind the text", Fault::Writing(writings::behind)),
     ("a byte too many told", Fault::Writing(writings::count)),
@@ -91,4 +108,8 @@ pub const ALL: [(&str, Fault); 29] = [
     ("a cut length written", Fault::Writing(writings::cut)),
     ("a record that is too large as BadLength", Fault::Writing(writings::large)),
     ("NoRoom before NotYetImplemented", Fault::Writing(writings::order)),
+    ("a ChangeCipherSpec written as its record's type", Fault::Writing(writings::cipher_spec)),
+    ("an alert written backwards", Fault::Writing(writings::backwards)),
+    ("NoRoom before the level of an alert", Fault::Writing(writings::level)),
+    ("application data as BadLength", Fault::Writing(writings::data)),
 ];

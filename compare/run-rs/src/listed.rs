@@ -1,5 +1,6 @@
 //! The differences between Norrabist and tls-parser that docs/DIFFERENCES.md lists.
 
+use judge::account::Class;
 use judge::case::Case;
 use judge::made::{Client, Draft, Key, Record, Server};
 use judge::table::*;
@@ -7,7 +8,16 @@ use Listed::*;
 
 #[derive(Clone, Copy, PartialEq, Eq)]
 pub enum Listed {
-    Elsewhere,
+    ApplicationData,
+    CipherSpecByte,
+    AlertLevel,
+    HeartbeatType,
+    HeartbeatPadding,
+    HeartbeatPast,
+    HeartbeatLength,
+    HeartbeatRest,
+    CipherSpecWritten,
+    AlertWritten,
     Dropped,
     NoSuch,
     Random,
@@ -25,8 +35,17 @@ pub enum Listed {
     NoRoom,
 }
 
-pub const ALL: [Listed; 16] = [
-    Elsewhere,
+pub const ALL: [Listed; 25] = [
+    ApplicationData,
+    CipherSpecByte,
+    AlertLevel,
+    HeartbeatType,
+    HeartbeatPadding,
+    HeartbeatPast,
+    HeartbeatLength,
+    HeartbeatRest,
+    CipherSpecWritten,
+    AlertWritten,
     Dropped,
     NoSuch,
     Random,
@@ -53,26 +72,40 @@ const _: () = {
     }
 };
 
+const OTHERS: &str = "Records that are no handshake records";
 const ADDED: &str = "Norrabist and tls-parser";
 const CUT: &str = "Lengths that tls-parser's writers cut";
 
 impl Listed {
-    /// The number that Norrabist answers.
+    /// The number that Norrabist answers to a value that may not be written, or adds to an answer.
     pub fn number(self) -> u64 {
         match self {
             Dropped => 0,
             Content => refusal::TOO_LARGE,
             NoRoom => refusal::NO_ROOM,
-            Elsewhere => refusal::ELSEWHERE,
             NoSuch => refusal::NO_SUCH,
             _ => refusal::BAD_LENGTH,
         }
     }
 
+    /// Whether it has answers of more than one number.
+    pub fn is_account(self) -> bool {
+        (self as usize) < Dropped as usize
+    }
+
     /// Its heading in docs/DIFFERENCES.md, and the row or item under it.
     pub fn place(self) -> (&'static str, &'static str) {
         match self {
-            Elsewhere => (ADDED, "Elsewhere"),
+            ApplicationData => (OTHERS, "A record of application data"),
+            CipherSpecByte => (OTHERS, "A ChangeCipherSpec byte other than 1"),
+            AlertLevel => (OTHERS, "An alert level other than 1 and 2"),
+            HeartbeatType => (OTHERS, "A heartbeat type other than 1 and 2"),
+            HeartbeatPadding => (OTHERS, "A heartbeat's padding under 16 bytes"),
+            HeartbeatPast => (OTHERS, "A heartbeat's payload past the end"),
+            HeartbeatLength => (OTHERS, "A heartbeat's given length"),
+            HeartbeatRest => (OTHERS, "What is left behind a heartbeat"),
+            CipherSpecWritten => (OTHERS, "A ChangeCipherSpec is written"),
+            AlertWritten => (OTHERS, "An alert is written"),
             Dropped => (ADDED, "how many bytes of a record were dropped"),
             NoSuch => (ADDED, "NoSuch"),
             Random => (CUT, "a hello's random"),
@@ -88,6 +121,23 @@ impl Listed {
             Raw => (CUT, "a raw key exchange, a Finished"),
             Content => (CUT, "a record's content"),
             NoRoom => (ADDED, "NoRoom"),
+        }
+    }
+}
+
+impl From<Class> for Listed {
+    fn from(class: Class) -> Listed {
+        match class {
+            Class::ApplicationData => ApplicationData,
+            Class::CipherSpecByte => CipherSpecByte,
+            Class::AlertLevel => AlertLevel,
+            Class::HeartbeatType => HeartbeatType,
+            Class::HeartbeatPadding => HeartbeatPadding,
+            Class::HeartbeatPast => HeartbeatPast,
+            Class::HeartbeatLength => HeartbeatLength,
+            Class::HeartbeatRest => HeartbeatRest,
+            Class::CipherSpecWritten => CipherSpecWritten,
+            Class::AlertWritten => AlertWritten,
         }
     }
 }

@@ -78,6 +78,8 @@ fn compared(cases: u64, seed: u64) -> ExitCode {
     let randoms = &run.bench.randoms;
     let (compared, of_four) = (grouped(randoms.compared), grouped(randoms.of_four));
     println!("rand_time and rand_bytes of {compared} cases, {of_four} of them made up with a random of four bytes\n");
-    println!("SEED {seed}: {} cases compared, 0 unlisted differences", grouped(run.tally.cases));
+    let (cases, alike) = (run.tally.cases, run.tally.alike);
+    println!("{} cases answered alike, {} by a listed difference", grouped(alike), grouped(cases - alike));
+    println!("SEED {seed}: {} cases compared, 0 unlisted differences", grouped(cases));
     ExitCode::SUCCESS
 }

@@ -6,7 +6,7 @@ pub trait Norrabist {
     /// The numbers of a reader's answer, put behind those that are there.
     fn read(&self, case: &Case, to: &mut Vec<u64>);
 
-    /// The walk over the messages of a plaintext record that was accepted.
+    /// The walk over the messages of a record, or of joined records, that was accepted.
     fn walk(&self, case: &Case) -> Walk;
 
     /// The numbers of `rand_time` and `rand_bytes`, of each ClientHello that a case has.
@@ -17,12 +17,13 @@ pub trait Norrabist {
     fn write(&self, case: &Case, room: &mut [u8]) -> Result<usize, u64>;
 }
 
-/// What Norrabist adds to a plaintext record.
+/// What Norrabist adds to a record, or to joined records together.
 #[derive(Clone, Copy, Debug, PartialEq, Eq)]
 pub struct Walk {
     /// How many messages the walk meets.
     pub messages: usize,
-    /// The number of the refusal behind the last of them.
+    /// The number of the refusal behind the last of them; 0 where they are no handshake messages,
+    /// or those of joined records.
     pub end: u64,
     /// How many bytes are told to be dropped.
     pub dropped: usize,

@@ -29,6 +29,7 @@ fn layout(function: &str) -> (usize, &'static [bool]) {
         GEN_DRAFT_18 => (4, &[false, true]),
         GEN_CLIENT_KEY => (1, &[]),
         GEN_PLAINTEXT => (3, &[]),
+        GEN_ANY => (1, &[]),
         _ => (0, &[]),
     }
 }

@@ -52,10 +52,23 @@ fn is_value(case: &Case) -> bool {
     let i = &case.input[..];
     match case.function {
         GEN_CLIENT_KEY => i.first().is_some_and(|first| *first <= form::ECDH),
-        GEN_HELLO_REQUEST => i.is_empty(),
+        GEN_HELLO_REQUEST | GEN_CIPHER_SPEC => i.is_empty(),
+        GEN_ANY => is_any(i),
         GEN_MESSAGE => write::message(i).is_some(),
         GEN_PLAINTEXT => i.len() >= 3 && write::is_written(&i[3..]),
         _ => true,
+    }
+}
+
+/// The same of a message of any record.
+fn is_any(i: &[u8]) -> bool {
+    match i {
+        [record_type::HANDSHAKE, m @ ..] => write::message(m).is_some(),
+        [record_type::CHANGE_CIPHER_SPEC, m @ ..] => m.is_empty(),
+        [record_type::ALERT, m @ ..] => m.len() == 2,
+        [record_type::APPLICATION_DATA, ..] => true,
+        [record_type::HEARTBEAT, m @ ..] => !m.is_empty(),
+        _ => false,
     }
 }
 

@@ -1,10 +1,11 @@
 //! How many cases were compared, and what was answered.
 
 use crate::listed::{self, Listed};
+use crate::reading::{has_end, is_walked};
 use crate::refusals::NAMES;
 use crate::verdict::Verdict;
 use judge::case::Case;
-use judge::table::{is_writer, refusal, PLAINTEXT, READING, WRITING};
+use judge::table::{is_writer, refusal, READING, WRITING};
 
 const FUNCTIONS: usize = READING.len() + WRITING.len();
 const NUMBERS: usize = NAMES.len();
@@ -17,40 +18,39 @@ pub struct Tally {
     answers: [[u64; NUMBERS]; FUNCTIONS],
     listed: [u64; listed::ALL.len()],
     pub cases: u64,
+    /// To which tls-parser gives the same answer.
+    pub alike: u64,
     long: u64,
 }
 
 impl Tally {
     pub fn new() -> Self {
-        Tally { answers: [[0; NUMBERS]; FUNCTIONS], listed: [0; listed::ALL.len()], cases: 0, long: 0 }
+        let (answers, listed) = ([[0; NUMBERS]; FUNCTIONS], [0; listed::ALL.len()]);
+        Tally { answers, listed, cases: 0, alike: 0, long: 0 }
     }
 
     pub fn add(&mut self, case: &Case, verdict: Verdict) {
         self.cases += 1;
         self.long += u64::from(case.input.len() > LONG);
         let number = match verdict {
-            Verdict::Same(number) => number,
-            Verdict::Listed(listed) => listed.number(),
+            Verdict::Same(number) | Verdict::Listed(_, number) => number,
             Verdict::Differs => return,
         };
         self.answers[row(case.function)][number as usize] += 1;
-        if let Verdict::Listed(listed) = verdict {
-            self.listed[listed as usize] += 1;
+        match verdict {
+            Verdict::Listed(listed, _) => self.listed[listed as usize] += 1,
+            _ => self.alike += 1,
         }
         if number == 0 {
-            self.add_accepted(case.function);
+            self.add_accepted(case);
         }
     }
 
     /// Every text was also asked for in a room that is too short, every record walked over.
-    fn add_accepted(&mut self, function: &str) {
-        if is_writer(function) {
-            self.listed[Listed::NoRoom as usize] += 1;
-        }
-        if function == PLAINTEXT {
-            self.listed[Listed::Dropped as usize] += 1;
-            self.listed[Listed::NoSuch as usize] += 1;
-        }
+    fn add_accepted(&mut self, case: &Case) {
+        self.listed[Listed::NoRoom as usize] += u64::from(is_writer(case.function));
+        self.listed[Listed::Dropped as usize] += u64::from(is_walked(case.function));
+        self.listed[Listed::NoSuch as usize] += u64::from(has_end(case));
     }
 
     /// The tables of functions, refusals and listed differences.
@@ -72,7 +72,7 @@ impl Tally {
 
     fn refusals(&self) -> String {
         let mut out = format!("{:>4}  {:<52}{:>14}\n", "No.", "Refusal", "Answers");
-        for (number, name) in NAMES.iter().enumerate().skip(1) {
+        for (number, name) in NAMES.iter().enumerate().skip(1).filter(|(_, name)| !name.is_empty()) {
             let besides = match number as u64 {
                 refusal::NO_ROOM => self.listed[Listed::NoRoom as usize],
                 refusal::NO_SUCH => self.listed[Listed::NoSuch as usize],
@@ -89,7 +89,8 @@ impl Tally {
             format!("{:<44}{:>14}{:>14}  {}\n", "Listed difference", "Answer", "Times", "Listed under");
         for (listed, times) in listed::ALL.into_iter().zip(self.listed) {
             let (heading, item) = listed.place();
-            out += &format!("{item:<44}{:>14}{:>14}  {heading}\n", listed.number(), grouped(times));
+            let answer = if listed.is_account() { "any".into() } else { listed.number().to_string() };
+            out += &format!("{item:<44}{answer:>14}{:>14}  {heading}\n", grouped(times));
         }
         out
     }

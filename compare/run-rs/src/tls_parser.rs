@@ -3,7 +3,7 @@
 use crate::guard::{caught, last_panic};
 use crate::{cut, refusals};
 use judge::case::Case;
-use judge::{text, write};
+use judge::{answer::wrote as wrote_numbers, text, write};
 
 #[derive(Default)]
 pub enum Answer {
@@ -43,6 +43,17 @@ fn wrote(bytes: &[u8]) -> String {
 }
 
 impl Answer {
+    /// Its numbers; none where it is amiss.
+    pub fn numbers(&self) -> Option<Vec<u64>> {
+        let mut numbers = Vec::new();
+        match self {
+            Answer::Wrote(text) => wrote_numbers(&mut numbers, Ok(text.clone())),
+            Answer::Refused(number) => wrote_numbers(&mut numbers, Err(*number)),
+            Answer::CannotHold | Answer::Amiss(_) => return None,
+        }
+        Some(numbers)
+    }
+
     pub fn told(&self) -> String {
         match self {
             Answer::Wrote(text) => wrote(text),

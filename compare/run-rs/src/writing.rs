@@ -7,6 +7,7 @@ use crate::refusals;
 use crate::room::Room;
 use crate::tls_parser::{asked, asked_outside, Answer};
 use crate::verdict::Verdict;
+use judge::account::{self, Stands};
 use judge::case::Case;
 use judge::text;
 
@@ -17,6 +18,8 @@ const SPARE: usize = 40;
 #[derive(Default)]
 pub struct Writing {
     tls_parser: Answer,
+    /// What is to be answered where tls-parser's answer need not be it.
+    account: Option<Vec<u64>>,
     norrabist: Option<Result<usize, u64>>,
     room: Room,
     lent: usize,
@@ -24,6 +27,7 @@ pub struct Writing {
 
 impl Writing {
     pub fn compare(&mut self, norrabist: &impl Norrabist, case: &Case) -> Verdict {
+        self.account = None;
         let outside = outside(case);
         let tls_parser = if outside.is_some() { asked_outside(case) } else { asked(case) };
         let verdict = self.verdict(norrabist, case, &tls_parser, outside);
@@ -38,9 +42,13 @@ impl Writing {
         tls_parser: &Answer,
         outside: Option<Listed>,
     ) -> Verdict {
+        if account::is_kept(case) {
+            return self.by_account(norrabist, case, tls_parser);
+        }
         let (held, verdict) = match (tls_parser, outside) {
             (Answer::Wrote(_) | Answer::CannotHold, Some(listed)) => {
-                (self.refuses(norrabist, case, listed.number()), Verdict::Listed(listed))
+                let number = listed.number();
+                (self.refuses(norrabist, case, number), Verdict::Listed(listed, number))
             }
             (Answer::Wrote(text), None) => (self.writes(norrabist, case, text), Verdict::Same(0)),
             (Answer::Refused(number), None) => {
@@ -52,6 +60,27 @@ impl Writing {
             verdict
         } else {
             Verdict::Differs
+        }
+    }
+
+    /// Where the answer of tls-parser need not be the one to give.
+    fn by_account(&mut self, norrabist: &impl Norrabist, case: &Case, tls_parser: &Answer) -> Verdict {
+        let Some(theirs) = tls_parser.numbers() else { return Verdict::Differs };
+        let mut ours = Vec::new();
+        let stands = account::of(case, &theirs, &mut ours);
+        let held = match ours[..] {
+            [0, _, ref text @ ..] => {
+                let text: Vec<u8> = text.iter().map(|byte| *byte as u8).collect();
+                self.writes(norrabist, case, &text)
+            }
+            _ => self.refuses(norrabist, case, ours[0]),
+        };
+        let first = ours[0];
+        self.account = Some(ours);
+        match stands {
+            Stands::Alike if held => Verdict::Same(first),
+            Stands::Parted(class) if held => Verdict::Listed(class.into(), first),
+            _ => Verdict::Differs,
         }
     }
 
@@ -86,7 +115,11 @@ impl Writing {
 
     /// What both said: tls-parser, Norrabist.
     pub fn told(&self) -> (String, String) {
-        (self.tls_parser.told(), format!("in a room of {} bytes {}", self.lent, self.norrabist_told()))
+        let mut tls_parser = self.tls_parser.told();
+        if let Some(account) = &self.account {
+            tls_parser += &format!(", to be answered {}", text::numbers(account));
+        }
+        (tls_parser, format!("in a room of {} bytes {}", self.lent, self.norrabist_told()))
     }
 
     fn norrabist_told(&self) -> String {

@@ -2,6 +2,8 @@
 //! recorded readings.
 
 use judge::case::Case;
+use judge::made::Headed;
+use judge::text::PARTED;
 use std::fmt::Debug;
 
 /// The recorded list: `compare/README.md` says how it is written.
@@ -75,7 +77,7 @@ macro_rules! readings {
     ($case:ident, $compared:ident: $($name:ident($($len:ident)?);)*) => {
         match $case.function {
             $(stringify!($name) => {
-                $(let $len = usize::try_from($case.length.unwrap_or(0)).unwrap_or(usize::MAX);)?
+                $(let $len = $case.length.unwrap_or(0).try_into().expect("a length of its width");)?
                 let ours = norrabist_nom::$name(&$case.input $(, $len)?);
                 let theirs = tls_parser::$name(&$case.input $(, $len)?);
                 read(&$case, ours, theirs, $compared)
@@ -122,8 +124,18 @@ fn content(case: &Case, compared: &mut Compared) -> Result<(), Differs> {
     if theirs.hdr.record_type != tls_parser::TlsRecordType::Handshake {
         return Ok(());
     }
-    let ours = norrabist_nom::parse_tls_record_with_header(ours.data, &ours.hdr);
-    let theirs = tls_parser::parse_tls_record_with_header(theirs.data, &theirs.hdr);
+    headed(case, (ours.data, &ours.hdr), (theirs.data, &theirs.hdr), compared)
+}
+
+/// A content and its header, in the types of each crate.
+fn headed<'a>(
+    case: &Case,
+    ours: (&'a [u8], &norrabist_nom::TlsRecordHeader),
+    theirs: (&'a [u8], &tls_parser::TlsRecordHeader),
+    compared: &mut Compared,
+) -> Result<(), Differs> {
+    let ours = norrabist_nom::parse_tls_record_with_header(ours.0, ours.1);
+    let theirs = tls_parser::parse_tls_record_with_header(theirs.0, theirs.1);
     if let (Ok((ours, _)), Ok((theirs, _))) = (&ours, &theirs) {
         same(&|| case.to_string(), &format!("{ours:?}"), &format!("{theirs:?}"))?;
     }
@@ -135,17 +147,28 @@ fn case(line: &str, compared: &mut Compared) -> Result<(), Differs> {
     if case.function == "parse_tls_raw_record" || case.function == "parse_tls_plaintext" {
         content(&case, compared)?;
     }
-    // the types that Norrabist leaves to others
-    if case.function == "parse_tls_plaintext" && matches!(case.input.first(), Some(0x14 | 0x15 | 0x17 | 0x18))
-    {
+    // where the two part as listed
+    if line.contains(PARTED) {
         return Ok(());
+    }
+    if case.function == "parse_tls_record_with_header" {
+        let theirs = Headed::read(&case.input);
+        let tls_parser::TlsRecordHeader { record_type, version, len } = theirs.hdr;
+        let record_type = norrabist::TlsRecordType(record_type.0);
+        let ours = norrabist::TlsRecordHeader { record_type, version: norrabist::TlsVersion(version.0), len };
+        return headed(&case, (theirs.content, &ours), (theirs.content, &theirs.hdr), compared);
     }
     readings! { case, compared:
         parse_tls_record_header();
         parse_tls_raw_record();
         parse_tls_encrypted();
         parse_tls_plaintext();
+        tls_parser_many();
         parse_tls_message_handshake();
+        parse_tls_message_changecipherspec();
+        parse_tls_message_alert();
+        parse_tls_message_applicationdata();
+        parse_tls_message_heartbeat(len);
         parse_tls_handshake_client_hello();
         parse_tls_handshake_server_hello();
         parse_tls_handshake_certificaterequest();
@@ -178,6 +201,9 @@ pub fn compare() -> Result<Compared, Differs> {
         TlsCompressionID(u8);
         TlsHandshakeType(u8);
         TlsRecordType(u8);
+        TlsAlertSeverity(u8);
+        TlsAlertDescription(u8);
+        TlsHeartbeatMessageType(u8);
     }
     suites(&mut compared)?;
     for line in RECORDED.lines().filter(|line| !line.starts_with('#')) {

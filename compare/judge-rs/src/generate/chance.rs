@@ -1,27 +1,24 @@
 //! Cases drawn by chance.
 
-use super::collect::elsewhere;
 use super::damage::harm;
+use super::drawn_records::{content, joined};
 use crate::bytes::{announced, join, message, record};
 use crate::case::Case;
 use crate::rng::Rng;
 use crate::table::record_type::HANDSHAKE;
-use crate::table::{is_sized, kind, of_type, version, MESSAGE, PLAINTEXT, READING, TYPES};
+use crate::table::{is_sized, kind, longest, of_type, version, MESSAGE, PLAINTEXT, READING, TYPES};
 
-/// One case; a whole record that goes elsewhere is drawn again.
+/// One case.
 pub fn draw(rng: &mut Rng, good: &[Case]) -> Case {
-    loop {
-        let case = match rng.below(8) {
-            0..=2 => damaged(rng, good),
-            3 => any(rng),
-            4 => body(rng),
-            5 => hello(rng),
-            6 => one_message(rng),
-            _ => row(rng),
-        };
-        if !elsewhere(&case) {
-            return case;
-        }
+    match rng.below(12) {
+        0..=2 => damaged(rng, good),
+        3 => any(rng),
+        4 => body(rng),
+        5 => hello(rng),
+        6 => one_message(rng),
+        7 => row(rng),
+        8..=9 => content(rng),
+        _ => joined(rng),
     }
 }
 
@@ -32,14 +29,15 @@ fn damaged(rng: &mut Rng, good: &[Case]) -> Case {
         harm(rng, &mut case.input);
     }
     if case.length.is_some() && rng.below(2) == 0 {
-        case.length = Some(case.input.len() as u64);
+        case.length = Some(longest(case.function).min(case.input.len() as u64));
     }
     case
 }
 
-fn case(rng: &mut Rng, function: &'static str, input: Vec<u8>) -> Case {
+pub fn case(rng: &mut Rng, function: &'static str, input: Vec<u8>) -> Case {
     let near = (input.len() + rng.below(3)).saturating_sub(1);
-    Case { function, length: is_sized(function).then_some(near as u64), input }
+    let length = is_sized(function).then_some(longest(function).min(near as u64));
+    Case { function, length, input }
 }
 
 /// Short bytes for any function.

@@ -2,8 +2,8 @@
 
 use crate::bytes::{message, record};
 use crate::case::Case;
-use crate::table::record_type::{ELSEWHERE, HANDSHAKE};
-use crate::table::{is_sized, limit, of_type, MESSAGE, PLAINTEXT};
+use crate::table::record_type::HANDSHAKE;
+use crate::table::{is_sized, of_record, of_type, MANY, MESSAGE, PLAINTEXT, WITH_HEADER};
 use std::collections::HashSet;
 
 /// The most that the length of a record can say, over the limit or not.
@@ -18,7 +18,7 @@ pub struct Cases {
 
 impl Cases {
     pub fn push(&mut self, case: Case) {
-        if !elsewhere(&case) && self.seen.insert(case.clone()) {
+        if self.seen.insert(case.clone()) {
             self.list.push(case);
         }
     }
@@ -64,6 +64,17 @@ impl Cases {
         self.wrapped(handshake_type, body);
     }
 
+    /// A content of a record that is no handshake record, everywhere: the function of its message,
+    /// behind a header, in a record, and in one that others follow.
+    pub fn content(&mut self, record_type: u8, content: &[u8]) {
+        for name in of_record(record_type) {
+            self.add(name, content);
+        }
+        let whole = record(record_type, content);
+        [WITH_HEADER, PLAINTEXT, MANY].into_iter().for_each(|f| self.add(f, &whole));
+        self.add(MANY, &[&whole[..], &record(HANDSHAKE, &[0; 4])].concat());
+    }
+
     /// A body for its own functions, and in turn in a message or in a record.
     pub fn mostly(&mut self, handshake_type: u8, body: &[u8]) {
         self.turn += 1;
@@ -75,15 +86,4 @@ impl Cases {
             self.add(PLAINTEXT, &record(HANDSHAKE, &message));
         }
     }
-}
-
-/// A whole plaintext record of a type that tls-parser opens and Norrabist sends elsewhere: the one
-/// place where the two answer differently by the rules (RULES 6).
-pub fn elsewhere(case: &Case) -> bool {
-    let i = &case.input;
-    if case.function != PLAINTEXT || i.len() < 5 || !ELSEWHERE.contains(&i[0]) {
-        return false;
-    }
-    let length = usize::from(i[3]) << 8 | usize::from(i[4]);
-    length <= limit::RECORD && length <= i.len() - 5
 }

@@ -1,11 +1,12 @@
 //! Good inputs: short ones made here, and captures of real connections.
 
 use super::collect::Cases;
+use super::contents::heartbeat;
 use super::hellos::{client, draft, server};
 use crate::bytes::{counted, hex, message, record};
 use crate::case::Case;
-use crate::table::record_type::HANDSHAKE;
-use crate::table::{kind, version, ENCRYPTED, HEADER, MESSAGE, PLAINTEXT, RAW};
+use crate::table::record_type::{ALERT, APPLICATION_DATA, CHANGE_CIPHER_SPEC, HANDSHAKE, HEARTBEAT};
+use crate::table::{kind, version, ENCRYPTED, HEADER, MANY, MESSAGE, PLAINTEXT, RAW, WITH_HEADER};
 
 const SAMPLES: [&str; 9] = [
     include_str!("../../../samples/client-hello-10.hex"),
@@ -48,12 +49,29 @@ pub fn short_bodies() -> Vec<(u8, Vec<u8>)> {
     ]
 }
 
+/// Short contents of the records that are no handshake records.
+pub fn short_contents() -> Vec<(u8, Vec<u8>)> {
+    vec![
+        (CHANGE_CIPHER_SPEC, hex("01")),
+        (CHANGE_CIPHER_SPEC, hex("010101")),
+        (ALERT, hex("0228")),
+        (ALERT, hex("0100 0228 015a")),
+        (APPLICATION_DATA, hex("")),
+        (APPLICATION_DATA, hex("474554202f")),
+        (HEARTBEAT, heartbeat(1, 4, 4, 16)),
+        (HEARTBEAT, heartbeat(2, 0, 0, 16)),
+    ]
+}
+
 pub fn short_messages() -> Vec<Vec<u8>> {
     short_bodies().iter().map(|(of, body)| message(*of, body)).collect()
 }
 
+/// The samples, and the four of one connection of TLS 1.2 joined.
 fn streams() -> Vec<Vec<u8>> {
-    SAMPLES.iter().map(|text| hex(text)).collect()
+    let samples: Vec<Vec<u8>> = SAMPLES.iter().map(|text| hex(text)).collect();
+    let joined = [1, 6, 7, 8].map(|k| &samples[k][..]).concat();
+    samples.into_iter().chain([joined]).collect()
 }
 
 /// The records of a stream; the samples hold whole ones.
@@ -68,12 +86,12 @@ fn records(stream: &[u8]) -> Vec<&[u8]> {
     out
 }
 
-/// The samples: each stream, each record, each message, each body.
+/// The samples: each stream, each record, each content, each message, each body.
 pub fn add(cases: &mut Cases) {
     for stream in streams() {
-        [PLAINTEXT, RAW, ENCRYPTED, HEADER].into_iter().for_each(|f| cases.add(f, &stream));
+        [PLAINTEXT, MANY, RAW, ENCRYPTED, HEADER].into_iter().for_each(|f| cases.add(f, &stream));
         for record in records(&stream) {
-            [PLAINTEXT, RAW].into_iter().for_each(|f| cases.add(f, record));
+            [PLAINTEXT, RAW, WITH_HEADER].into_iter().for_each(|f| cases.add(f, record));
             // Each handshake record of the samples holds one message.
             if record[0] == HANDSHAKE {
                 cases.add(MESSAGE, &record[5..]);
@@ -92,6 +110,9 @@ pub fn cases() -> Vec<Case> {
     let messages = short_messages();
     for pair in messages.windows(2) {
         cases.add(PLAINTEXT, &record(HANDSHAKE, &pair.concat()));
+    }
+    for (of, content) in short_contents() {
+        cases.content(of, &content);
     }
     let short = cases.list.clone();
     add(&mut cases);

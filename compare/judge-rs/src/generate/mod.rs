@@ -2,9 +2,12 @@
 
 mod chance;
 mod collect;
+mod contents;
 mod damage;
+mod drawn_records;
 mod good;
 mod hellos;
+mod joined;
 mod lists;
 mod messages;
 mod others;
@@ -13,7 +16,6 @@ mod rows;
 mod writes;
 
 use crate::{case::Case, domain, rng::Rng};
-pub use collect::elsewhere;
 use collect::Cases;
 use std::io;
 
@@ -62,6 +64,8 @@ fn fixed() -> Vec<Case> {
     lists::add(&mut cases);
     messages::add(&mut cases);
     records::add(&mut cases);
+    contents::add(&mut cases);
+    joined::add(&mut cases);
     good::add(&mut cases);
     damage::add(&mut cases);
     cases.list

@@ -2,9 +2,9 @@
 
 use super::collect::Cases;
 use crate::bytes::{be, hex, join, run};
-use crate::table::record_type::{ELSEWHERE, HANDSHAKE};
+use crate::table::record_type::{HANDSHAKE, OTHERS};
 use crate::table::version::{DRAFT_18, SSL30, TLS10, TLS13};
-use crate::table::{limit, ENCRYPTED, HEADER, PLAINTEXT, RAW};
+use crate::table::{limit, ENCRYPTED, HEADER, MANY, PLAINTEXT, RAW, WITH_HEADER};
 
 const READERS: [&str; 3] = [RAW, ENCRYPTED, PLAINTEXT];
 
@@ -18,7 +18,8 @@ pub fn add(cases: &mut Cases) {
 fn types(cases: &mut Cases) {
     let body = hex("0303 0004 00000000");
     for of in 0..=0xff {
-        READERS.into_iter().for_each(|f| cases.add(f, &join(&[&[of], &body])));
+        let record = join(&[&[of], &body]);
+        READERS.into_iter().chain([WITH_HEADER]).for_each(|f| cases.add(f, &record));
     }
     for of in [0x00, 0x13, 0x14, 0x15, 0x16, 0x17, 0x18, 0x19, 0xff] {
         cases.add(HEADER, &join(&[&[of], &body]));
@@ -29,7 +30,7 @@ fn types(cases: &mut Cases) {
 fn headers(cases: &mut Cases) {
     let whole = hex("16 0303 0001 aa ee");
     for n in 0..=whole.len() {
-        READERS.into_iter().chain([HEADER]).for_each(|f| cases.add(f, &whole[..n]));
+        READERS.into_iter().chain([HEADER, MANY]).for_each(|f| cases.add(f, &whole[..n]));
     }
     for version in [0, 0x0002, SSL30, TLS10, TLS13, DRAFT_18, 0xfeff, 0xffff] {
         let input = join(&[&[HANDSHAKE], &version.to_be_bytes(), &hex("0004 0e000000")]);
@@ -53,7 +54,7 @@ fn lengths(cases: &mut Cases) {
 
 /// The order of the refusals before the type is looked at.
 fn other_types(cases: &mut Cases, n: usize) {
-    for of in ELSEWHERE.into_iter().chain([0x19]) {
+    for of in OTHERS.into_iter().chain([0x19]) {
         for there in [0, n.saturating_sub(1)] {
             let head = join(&[&[of], &TLS10.to_be_bytes(), &be(2, n)]);
             cases.add(PLAINTEXT, &join(&[&head, &run(0, there)]));

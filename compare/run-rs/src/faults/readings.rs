@@ -3,8 +3,7 @@
 
 use crate::norrabist::Walk;
 use judge::case::Case;
-use judge::table::record_type::ALERT;
-use judge::table::refusal::{ELSEWHERE, INCOMPLETE, LENGTH_VALUE, SWITCH, TAG};
+use judge::table::refusal::{INCOMPLETE, LENGTH_VALUE, TAG};
 use judge::table::version::SSL30;
 use judge::table::*;
 
@@ -93,12 +92,6 @@ pub fn more(case: &Case, to: &mut Vec<u64>) {
 pub fn huge(case: &Case, to: &mut Vec<u64>) {
     if case.function == MSG_SERVER_DONE && case.length > Some(u64::from(u32::MAX)) {
         *to = vec![0, 0, kind::ServerDone.into(), 0, 0];
-    }
-}
-
-pub fn alert(case: &Case, to: &mut Vec<u64>) {
-    if case.input.first() == Some(&ALERT) && *to == [ELSEWHERE] {
-        *to = vec![SWITCH];
     }
 }
 

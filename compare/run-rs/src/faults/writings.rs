@@ -52,3 +52,31 @@ pub fn large(_: &Case, _: &[u8], _: &mut [u8], wrote: Wrote) -> Wrote {
 pub fn order(_: &Case, _: &[u8], room: &mut [u8], wrote: Wrote) -> Wrote {
     wrote.map_err(|number| if number == NOT_YET_IMPLEMENTED && room.is_empty() { NO_ROOM } else { number })
 }
+
+pub fn cipher_spec(case: &Case, _: &[u8], room: &mut [u8], wrote: Wrote) -> Wrote {
+    if case.function == GEN_CIPHER_SPEC && wrote == Ok(1) {
+        room[0] = record_type::CHANGE_CIPHER_SPEC;
+    }
+    wrote
+}
+
+pub fn backwards(case: &Case, _: &[u8], room: &mut [u8], wrote: Wrote) -> Wrote {
+    if case.function == GEN_ANY && wrote == Ok(2) {
+        room.swap(0, 1);
+    }
+    wrote
+}
+
+pub fn level(case: &Case, _: &[u8], room: &mut [u8], wrote: Wrote) -> Wrote {
+    if case.function == GEN_ANY && wrote == Err(BAD_LENGTH) && room.len() < 2 {
+        return Err(NO_ROOM);
+    }
+    wrote
+}
+
+pub fn data(case: &Case, _: &[u8], _: &mut [u8], wrote: Wrote) -> Wrote {
+    if case.function == GEN_ANY && case.input[0] == record_type::APPLICATION_DATA {
+        return Err(BAD_LENGTH);
+    }
+    wrote
+}

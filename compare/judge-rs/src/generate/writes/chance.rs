@@ -6,7 +6,7 @@ use super::messages::is_message;
 use super::others::LONG;
 use crate::bytes::{message, run};
 use crate::case::Case;
-use crate::made::{Client, Draft, Key, Record, Server};
+use crate::made::{Client, Draft, Key, Message, Record, Server};
 use crate::rng::Rng;
 use crate::table::record_type::HANDSHAKE;
 use crate::table::*;
@@ -22,6 +22,8 @@ pub fn draw(rng: &mut Rng, good: &[Vec<u8>]) -> Case {
         19 => (GEN_FINISHED, part(rng, LONG)),
         20..=25 => (GEN_MESSAGE, one_message(rng, good)),
         26 if rng.below(16) == 0 => (GEN_HELLO_REQUEST, Vec::new()),
+        26 if rng.below(16) == 0 => (GEN_CIPHER_SPEC, Vec::new()),
+        27 => (GEN_ANY, any(rng, good)),
         _ => (GEN_PLAINTEXT, record(rng)),
     };
     Case { function, length: None, input }
@@ -136,6 +138,23 @@ fn one_message(rng: &mut Rng, good: &[Vec<u8>]) -> Vec<u8> {
         }
         if is_message(&input) {
             return input;
+        }
+    }
+}
+
+/// A message of any record, an alert in one of two.
+fn any(rng: &mut Rng, good: &[Vec<u8>]) -> Vec<u8> {
+    match rng.below(8) {
+        0 => Message::ChangeCipherSpec.bytes(),
+        1 => Message::ApplicationData(&part(rng, limit::RECORD)).bytes(),
+        2 => {
+            let payload = &part(rng, limit::RECORD);
+            Message::Heartbeat { heartbeat_type: rng.byte() % 4, payload }.bytes()
+        }
+        3 => Message::Handshake(&one_message(rng, good)).bytes(),
+        _ => {
+            let severity = if rng.below(3) == 0 { rng.byte() } else { 1 + rng.byte() % 2 };
+            Message::Alert { severity, code: rng.byte() }.bytes()
         }
     }
 }

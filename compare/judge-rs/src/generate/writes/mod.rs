@@ -2,6 +2,7 @@
 //! end. All lie in the domain (domain.rs).
 
 mod chance;
+mod contents;
 mod hellos;
 mod messages;
 mod others;
@@ -18,6 +19,7 @@ pub fn fixed() -> Vec<Case> {
     hellos::add(&mut cases);
     others::add(&mut cases);
     records::add(&mut cases);
+    contents::add(&mut cases);
     messages::add(&mut cases);
     cases.list
 }
