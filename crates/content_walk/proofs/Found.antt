@@ -6,16 +6,16 @@ use mathlib.Core.List.{List}
 use mathlib.Core.Logic.{_⊎_, inl, inr}
 use native.Mathlib.Omega.{arith}
 use mathlib.Core.Option.{none, some}
-use borrow.Author.Tests.{eqb-true}
+use borrow.Author.Tests.{eqb-true, ne-eqb}
 use lib.Dec.{eqb}
 use lib.ListN.{length}
-use Rattle.refusal.specs.Answers.{Answer, accepted, refused, then, giving}
+use Rattle.refusal.specs.Answers.{Answer, accepted, refused, giving}
 use Rattle.refusal.specs.Refusals.{refusal}
 use Rattle.refusal.specs.declared.Reason.the-variants.{LengthValue, Switch}
 use Rattle.refusal.specs.declared.Refusal.{Refusal}
 use Rattle.refusal.proofs.Then.{not-both, then-accepted, then-refused}
 use Rattle.wire.specs.Numbers.{numberAt}
-use Rattle.wire.specs.Parts.{pick, ifSome, lookup}
+use Rattle.wire.specs.Parts.{pick, ifSome}
 use Rattle.wire.specs.declared.number.Number.{Number}
 use Rattle.wire.proofs.Numbers.{number-is}
 use Rattle.list.specs.Stopping.{Takes}
@@ -86,6 +86,12 @@ found-17 s at = refl
 pub found-18 : (s : List ℕ) (at : ℕ) → foundAt 0x18 s at ≡ heartbeatFound s
 unfolding foundAt
 found-18 s at = refl
+
+-- and every other: Switch
+pub not-listed : (t : ℕ) (s : List ℕ) (at : ℕ) → (t ≡ 0x14 → ⊥) → (t ≡ 0x15 → ⊥) → (t ≡ 0x16 → ⊥) → (t ≡ 0x17 → ⊥)
+    → (t ≡ 0x18 → ⊥) → foundAt t s at ≡ refused (refusal Switch 0 0)
+unfolding foundAt
+not-listed t s at a b c d e = rw (ne-eqb t 0x14 a, ne-eqb t 0x15 b, ne-eqb t 0x16 c, ne-eqb t 0x17 d, ne-eqb t 0x18 e)
 
 -- what takes a row of the table
 row-of : (a b c d e : Bool) (x₁ x₂ x₃ x₄ x₅ : Answer TlsFound) (r : Refusal) {x : TlsFound}

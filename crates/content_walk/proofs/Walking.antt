@@ -1,7 +1,7 @@
 -- The messages of a content, and the walk over them: the stopping rule of
 -- `list/proofs/Stopping.antt` where the type repeats, one message where it does not. Assumes
 -- nothing.
-use Prim.Native.Nat.{ℕ, zero, suc, _+_, _-_, _*_, _<_, _≤_}
+use Prim.Native.Nat.{ℕ, zero, suc, _+_, _-_, _≤_}
 use mathlib.Core.Path.{_≡_, refl, sym, ap, _∙_}
 use mathlib.Core.Bool.{Bool, true, false}
 use mathlib.Core.List.{List, [], _∷_}
@@ -12,14 +12,14 @@ use Rattle.refusal.specs.Answers.{Answer, accepted, refused, giving}
 use Rattle.refusal.specs.Refusals.{refusal}
 use Rattle.refusal.specs.declared.Reason.the-variants.{NoSuch}
 use Rattle.refusal.specs.declared.Refusal.{Refusal}
-use Rattle.refusal.proofs.Then.{not-both, then-accepted, then-refused}
+use Rattle.refusal.proofs.Then.{not-both, then-refused}
 use Rattle.wire.specs.Parts.{pick}
 use Rattle.list.specs.Items.{itemsFrom, place, orNoSuch}
-use Rattle.list.specs.Stopping.{endOf, Stops}
+use Rattle.list.specs.Stopping.{endOf}
 use Rattle.list.proofs.Walk.{Moves, rest, fuel, rest-on, rest-end, first, go-on, place-past, none, none-after}
 use Rattle.list.proofs.Stopping.{moves-by, ends-in, stops-by}
 use Rattle.content.specs.declared.TlsMessage.{TlsMessage}
-use Rattle.content_walk.specs.ContentWalks.{foundAt, isSingle, messagesBehind, messagesOf, droppedOf, metBy}
+use Rattle.content_walk.specs.ContentWalks.{foundAt, isSingle, messagesBehind, messagesOf, metBy}
 use Rattle.content_walk.specs.ContentWalks.{nextMessage, moved, walkAfter, freshWalk}
 use Rattle.content_walk.specs.ContentWalking.{ContentWalking}
 use Rattle.content_walk.specs.declared.TlsFound.{TlsFound}

@@ -1,15 +1,14 @@
 -- The stopping rule: what is shown of whatever is found at one byte after the other, until one is
 -- refused. Assumes nothing.
 use Prim.Native.Nat.{ℕ, zero, suc, _+_, _-_, _*_, _≤_}
-use mathlib.Core.Path.{_≡_, refl, sym, ap, _∙_}
-use mathlib.Core.List.{List, [], _∷_}
+use mathlib.Core.Path.{_≡_, refl}
 use native.Mathlib.Omega.{arith}
 use lib.ListN.{length}
 use Rattle.refusal.specs.Answers.{Answer, accepted, refused}
 use Rattle.refusal.specs.declared.Refusal.{Refusal}
-use Rattle.list.specs.Items.{itemsFrom, place, orNoSuch}
-use Rattle.list.specs.Stopping.{endOf, leftOver, Takes, Stops}
-use Rattle.list.proofs.Walk.{Moves, rest, fuel, rest-all, first, go-on, rest-on, rest-end}
+use Rattle.list.specs.Items.{itemsFrom}
+use Rattle.list.specs.Stopping.{endOf, Takes, Stops}
+use Rattle.list.proofs.Walk.{Moves, fuel, rest-all, first, go-on}
 
 -- what takes a byte at least moves
 pub moves-by : {A : Type 0} {find : ℕ → Answer A} {past : A → ℕ} {least n : ℕ} → Takes find past least n

@@ -3,13 +3,13 @@
 use Prim.Native.Nat.{ℕ, _+_, _-_, _<_, _≤_}
 use mathlib.Core.Path.{_≡_, refl, sym, ap, _∙_}
 use mathlib.Core.Bool.{Bool, true, false}
-use mathlib.Core.List.{List, [], _∷_}
+use mathlib.Core.List.{List, []}
 use native.Mathlib.Omega.{arith}
 use borrow.Author.Tests.{leb-true, leb-false, le-leb, lt-leb}
 use lib.Dec.{eqb, leb}
 use lib.ListN.{length, take, drop, length-drop}
 use lib.Seq.{length-take-le, take-take, take-add, drop-at, drop-drop}
-use Rattle.refusal.specs.Answers.{Answer, accepted, then}
+use Rattle.refusal.specs.Answers.{accepted}
 use Rattle.refusal.proofs.Then.{then-accepted}
 use Rattle.wire.specs.Parts.{pick, partOf}
 use Rattle.wire.specs.declared.view.View.{View}

@@ -1,29 +1,25 @@
 -- Joined plaintext records where they lie: the stopping rule of `list/proofs/Stopping.antt`, a
 -- record being what is found at a place. Assumes nothing.
-use Prim.Native.Nat.{ℕ, zero, suc, _+_, _-_, _*_, _≤_}
+use Prim.Native.Nat.{ℕ, zero, suc, _+_, _-_, _≤_}
 use mathlib.Core.Path.{_≡_, refl, sym, ap, _∙_}
-use mathlib.Core.List.{List, [], _∷_}
+use mathlib.Core.List.{List}
 use mathlib.Core.Logic.{_⊎_, inl, inr}
 use native.Mathlib.Omega.{arith}
 use lib.ListN.{length, drop, length-drop}
-use Rattle.refusal.specs.Answers.{Answer, accepted, refused, giving, within, then}
+use Rattle.refusal.specs.Answers.{Answer, accepted, refused, giving, within}
 use Rattle.refusal.specs.Refusals.{refusal, inside}
 use Rattle.refusal.specs.declared.Reason.the-variants.{NoSuch}
 use Rattle.refusal.specs.declared.Refusal.{Refusal}
 use Rattle.refusal.proofs.Then.{not-both, then-accepted, then-refused, within-accepted}
-use Rattle.wire.specs.Parts.{partOf}
-use Rattle.grammar.specs.Forms.{reading}
-use Rattle.list.specs.Items.{itemsFrom, place, orNoSuch}
-use Rattle.list.specs.Stopping.{endOf, Takes, Stops}
-use Rattle.list.proofs.Walk.{Moves, rest, fuel, rest-on, rest-end, first, go-on, none, none-after, got}
+use Rattle.list.specs.Items.{place, orNoSuch}
+use Rattle.list.specs.Stopping.{Takes}
+use Rattle.list.proofs.Walk.{Moves, rest, fuel, rest-on, first, go-on, none, none-after, got}
 use Rattle.list.proofs.Stopping.{moves-by, ends-in, stops-by}
-use Rattle.record.specs.Records.{raw}
 use Rattle.record.specs.declared.TlsRawRecord.{TlsRawRecord}
 use Rattle.record.proofs.Lies.{raw-lies, same-value}
 use Rattle.record_open.proofs.Opened.{met-next, plain-is, met-raw}
-use Rattle.record_open.specs.Plaintext.{asFirst, contents, openedFirst, plaintext, recordMet, firstOf, plainRecord}
+use Rattle.record_open.specs.Plaintext.{asFirst, plaintext, recordMet, plainRecord}
 use Rattle.record_open.specs.declared.TlsPlaintext.{TlsPlaintext}
-use Rattle.record_open.specs.declared.TlsPlaintextOpened.{TlsPlaintextOpened}
 use Rattle.record_many.specs.Many.{plaintextFrom, recordPast, recordsFrom, recordsTold, many, nextRecord}
 use Rattle.record_many.specs.Many.{movedRecords, recordsAfter, ManyRecords}
 use Rattle.record_many.specs.declared.TlsRecords.{TlsRecords}

@@ -3,7 +3,7 @@
 use Prim.Native.Nat.{ℕ, zero, suc, _+_, _-_, _*_, _<_, _≤_}
 use mathlib.Core.Path.{_≡_, refl, sym, ap, _∙_}
 use mathlib.Core.Logic.{_⊎_, inl, inr}
-use mathlib.Core.List.{List, [], _∷_}
+use mathlib.Core.List.{List, _∷_}
 use native.Mathlib.Omega.{arith}
 use lib.ListN.{length}
 use Rattle.refusal.specs.Answers.{Answer, accepted, refused, giving}
@@ -85,13 +85,6 @@ module _ (s : List ℕ) where
 
 pub past-inside : (s : List ℕ) → pastAll (messages s) 0 ≤ length s
 past-inside s = ends-in (takes-messages s) (length s) 0 (omega arith) .0
-
--- from a place within the bytes on: where they end, and how many they are
-pub from-inside : (s : List ℕ) (at : ℕ) → at ≤ length s → (pastAll (messagesFrom s at) at ≤ length s)
-    × (at + length (messagesFrom s at) * 4 ≤ length s)
-from-inside s at h =
-    let i = ends-in (takes-messages s) (length s) at h in
-    (i .0, omega (arith, i .0, i .1))
 
 -- the walk moved on, by what is met
 moved-on : (s : List ℕ) (w : TlsHandshakeWalk) {x : Met} → metAt s (w .next) ≡ accepted x

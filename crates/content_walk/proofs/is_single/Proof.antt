@@ -1,6 +1,5 @@
 -- `content_walk::is_single` meets its contract, test by test. Assumes nothing.
 use borrow.Author.Tests.{eq-eqb, ne-eqb}
-use borrow.Author.Needs.{needs}
 use Rattle.content_walk.proofs.is_single.Statement.{statement}
 use Rattle.content_walk.proofs.is_single.Tie as tie
 

@@ -1,8 +1,8 @@
 -- `content_walk::message_at` meets its contract: the type decides. Assumes nothing.
 use mathlib.Core.Path.{ap}
-use borrow.Author.Tests.{ne-eqb}
 use Rattle.refusal.specs.Answers.{refused}
 use Rattle.content_walk.specs.ContentWalks.{foundAt}
+use Rattle.content_walk.proofs.Found.{not-listed}
 use borrow.Author.Needs.{needs}
 use Rattle.content_walk.proofs.message_at.Statement.{statement}
 use Rattle.content_walk.proofs.message_at.Tie as tie
@@ -46,17 +46,10 @@ unfolding foundAt
 returns-5 c = rw (c .before .match .keys5) (c .heartbeat-found .ensures)
 
 returns-6 : tie.Need-returns-6
-unfolding foundAt
 returns-6 c =
-    let k = c .before .before .before .args .record-type in
     let m = c .before .match .rest in
-    rw (
-      ne-eqb k 0x14 (m .0 .0 .0 .0 .1),
-      ne-eqb k 0x15 (m .0 .0 .0 .1),
-      ne-eqb k 0x16 (m .0 .0 .1),
-      ne-eqb k 0x17 (m .0 .1),
-      ne-eqb k 0x18 (m .1),
-    ) (ap refused (c .refuse .ensures))
+    rw (not-listed _ _ _ (m .0 .0 .0 .0 .1) (m .0 .0 .0 .1) (m .0 .0 .1) (m .0 .1) (m .1))
+    (ap refused (c .refuse .ensures))
 
 pub message-at-spec : {M : Type 1} → statement M
 message-at-spec =

@@ -1,7 +1,6 @@
 -- `record_open::is_opened` meets its contract, test by test. Assumes nothing.
 use native.Mathlib.Omega.{arith}
 use borrow.Author.Tests.{le-leb, lt-leb}
-use borrow.Author.Needs.{needs}
 use Rattle.record_open.proofs.is_opened.Statement.{statement}
 use Rattle.record_open.proofs.is_opened.Tie as tie
 
