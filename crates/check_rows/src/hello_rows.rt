@@ -1,7 +1,8 @@
-// Rows 1 to 9 and 14: hellos.
+// Rows 1 to 9 and 14: hellos; rows 2 to 5 read strictly too.
 use crate::say;
 use libc::STDOUT_FILENO;
 use norrabist::ClientHelloAnswer;
+use norrabist::Exactness;
 use norrabist::MessageAnswer;
 use norrabist::OptView;
 use norrabist::ServerHelloAnswer;
@@ -69,6 +70,41 @@ fn client(row: &[u8], text: &[u8], s: &[u8]) {
     }
 }
 
+fn say_client_message(s: &[u8], m: TlsMessageHandshake) {
+    match m {
+        TlsMessageHandshake::ClientHello(c) => say_client(s, c),
+        _ => say::text(b"accepted, no ClientHello\n"),
+    }
+}
+
+fn say_exactness(e: Exactness) {
+    match e {
+        Exactness::Exact => say::text(b"exact\n"),
+        Exactness::NoCiphers => say::text(b"no ciphers\n"),
+        Exactness::NoMethods => say::text(b"no methods\n"),
+        Exactness::HasTail => say::text(b"a tail\n"),
+    }
+}
+
+// Three lines: the body, the message, and what the plain reader's value tells.
+fn strict(row: &[u8], text: &[u8], s: &[u8]) {
+    say::row(row, b"strict ClientHello", text);
+    match norrabist::parse_tls_handshake_client_hello_strict(s) {
+        ClientHelloAnswer::Refused(r) => say::refused(r),
+        ClientHelloAnswer::Got(c) => say_client(s, c),
+    }
+    say::row(row, b"strict ClientHello as message", text);
+    match norrabist::parse_tls_handshake_msg_client_hello_strict(s) {
+        MessageAnswer::Refused(r) => say::refused(r),
+        MessageAnswer::Got(m) => say_client_message(s, m),
+    }
+    say::row(row, b"exactness of ClientHello", text);
+    match norrabist::parse_tls_handshake_client_hello(s) {
+        ClientHelloAnswer::Refused(r) => say::refused(r),
+        ClientHelloAnswer::Got(c) => say_exactness(c.exactness(s)),
+    }
+}
+
 // Two lines: the message form alone opens draft 18.
 fn server(row: &[u8], text: &[u8], s: &[u8]) {
     say::row(row, b"ServerHello", text);
@@ -106,6 +142,29 @@ pub(crate) fn clients() {
     s[36] = 0;
     s[37] = 0x01;
     client(b"9", b"0303 Z 00 0000 01", &s[..38]);
+}
+
+// H read strictly, and one cipher, one method and extensions added one by one.
+pub(crate) fn stricts() {
+    let mut s = [0u8; 80];
+    s[0] = 0x03;
+    s[1] = 0x03;
+    strict(b"2", b"H", &s[..38]);
+    strict(b"3", b"H 00", &s[..39]);
+    strict(b"4", b"H 0000", &s[..40]);
+    strict(b"-", b"0303 Z 00 0000", &s[..37]);
+    s[39] = 0x01;
+    strict(b"5", b"H 0001", &s[..40]);
+    s[36] = 0x02;
+    s[38] = 0x2f;
+    s[39] = 0x00;
+    strict(b"-", b"0303 Z 00 0002 002f 00", &s[..40]);
+    s[39] = 0x01;
+    strict(b"-", b"0303 Z 00 0002 002f 01 00", &s[..41]);
+    strict(b"-", b"0303 Z 00 0002 002f 01 00 00", &s[..42]);
+    strict(b"-", b"0303 Z 00 0002 002f 01 00 0000", &s[..43]);
+    s[42] = 0x01;
+    strict(b"-", b"0303 Z 00 0002 002f 01 00 0001", &s[..43]);
 }
 
 // Versions that only one of the two functions opens, or neither.

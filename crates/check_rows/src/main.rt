@@ -12,6 +12,7 @@ fn main() {
         b"refused 1 is Incomplete, 2 Complete, 3 Verify, 4 LengthValue, 5 Tag, 6 Switch, 7 TooLarge, 8 BadLength, 9 NoRoom, 11 NoSuch, 12 NotYetImplemented\n",
     );
     hello_rows::clients();
+    hello_rows::stricts();
     record_rows::messages();
     record_rows::records();
     record_rows::others();

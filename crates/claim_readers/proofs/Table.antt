@@ -18,7 +18,7 @@ use Rattle.list.specs.Items.{items, itemsFrom, itemFrom}
 use Rattle.list.proofs.Fixed.{count-of}
 use Rattle.content_walk.specs.declared.TlsRecordWalk.{TlsRecordWalk}
 use Rattle.record.specs.declared.TlsRecordHeader.{TlsRecordHeader}
-use Rattle.claim_readers.specs.Readers.{Check, inOrder, under, beside, startCase, clientCase, serverCase}
+use Rattle.claim_readers.specs.Readers.{Check, inOrder, under, beside, startCase, clientCase, strictCase, serverCase}
 use Rattle.claim_readers.specs.Readers.{byVersionCase, draft18Case, serverMessageCase, retryCase, ticketCase}
 use Rattle.claim_readers.specs.Readers.{certificateCase, requestCase, statusCase, nextProtocolCase}
 use Rattle.claim_readers.specs.Readers.{keyUpdateCase, wholeCase, openedCase, bodyCase, headCase, metCase}
@@ -28,6 +28,7 @@ use Rattle.claim_readers.specs.Readers.{plaintextCase, manyCase, placeCa
 use Rattle.claim_readers.specs.Readers.{walkCase, walkByTypeCase, walkRecordsCase, All, _&_, end, Gives, ofMessage}
 use Rattle.claim_readers.specs.Readers.{Readers}
 use Rattle.claim_readers.proofs.Readers.{client-hello, start-hello, server-hello, server-by-version}
+use Rattle.claim_readers.proofs.Strict.{strict-hello}
 use Rattle.claim_readers.proofs.Readers.{draft18-hello, of-retry, of-ticket, of-certificate, of-request}
 use Rattle.claim_readers.proofs.Readers.{of-status, of-next-protocol, server-as, key-update, whole-as, opens}
 use Rattle.claim_readers.proofs.Readers.{opens-all, heads, meets, meets-head, message-first, record-header}
@@ -189,13 +190,16 @@ joined =
     & end
 
 pub every-reading : Readers
-unfolding startCase clientCase serverCase byVersionCase draft18Case serverMessageCase retryCase ticketCase certificateCase requestCase statusCase nextProtocolCase keyUpdateCase wholeCase openedCase bodyCase
+unfolding startCase clientCase strictCase serverCase byVersionCase draft18Case serverMessageCase retryCase ticketCase certificateCase requestCase statusCase nextProtocolCase keyUpdateCase wholeCase openedCase bodyCase
     headCase metCase headerCase rawCase cipherSpecCase alertCase applicationCase heartbeatCase heartbeatInCase
     foundCase manyCase itemCase walkCase walkByTypeCase walkRecordsCase itemFrom
 every-reading = record {
   helloStart = row start-hello (λ s. checks-only _ refl) (unfold inOrder be in ([], refl) & (longId, refl) & end);
   clientHello =
       row client-hello (λ s. checks-only _ refl)
+      (unfold inOrder be in ([], refl) & (longId, refl) & (oddCiphers, refl) & end);
+  strictHello =
+      row strict-hello (λ s. checks-only _ refl)
       (unfold inOrder be in ([], refl) & (longId, refl) & (oddCiphers, refl) & end);
   serverHello =
       λ hasExt. row (server-hello hasExt) (λ s. checks-only _ refl)

@@ -3,13 +3,13 @@
 -- with no field, rule, grammar or step in it; `places` alone, of any field's items, takes their
 -- count from `items`. At the end, `Readers`, a table: each reader, its case, its refusals. Shown by
 -- `proofs/Table.antt`.
-use Rattle.refusal.specs.{ℕ, zero, suc, _+_, _/_, _%_, _≤_, _≡_, List, [], _∷_, Bool, length, take, drop, leb, ltb, eqb, Answer, numberIn, numberOf, Reason, Incomplete, Complete, Verify, LengthValue, Tag, Switch, TooLarge, NoSuch, OneOf}
+use Rattle.refusal.specs.{ℕ, zero, suc, _+_, _/_, _%_, _≤_, _≡_, List, [], _∷_, Bool, true, false, _||_, length, take, drop, leb, ltb, eqb, Answer, numberIn, numberOf, Reason, Incomplete, Complete, Verify, LengthValue, Tag, Switch, TooLarge, NoSuch, OneOf}
 use Rattle.wire.specs.{pick, be, numberAt, View}
 use Rattle.field.specs.{Field, sized}
 use Rattle.grammar.specs.{reading, byVersion}
 use Rattle.list.specs.{items, place, itemFrom, numberPlace}
 use Rattle.read_start.specs.Start.{helloStart}
-use Rattle.read_client.specs.{client}
+use Rattle.read_client.specs.{client, strictClient}
 use Rattle.read_server.specs.{server, serverVersions, draft18}
 use Rattle.read_certs.specs.{certificate, certificateRequest, status}
 use Rattle.read_others.specs.Body.{retry, sessionTicket, nextProtocol}
@@ -51,6 +51,10 @@ over x n why = (ltb n x, why)
 abbrev pub is : ℕ → ℕ → Reason → Check
 is x n why = (eqb x n, why)
 
+-- it is neither m nor n
+abbrev pub neither : ℕ → ℕ → ℕ → Reason → Check
+neither x m n why = (pick (eqb x m || eqb x n) false true, why)
+
 -- RULES 3.2, RFC 5246 7.4.1.2. ClientHello: version 2, random 32, length 1 and id, length 2 and
 -- ciphers, length 1 and methods
 unfoldable pub clientCase : List ℕ → ℕ
@@ -66,6 +70,29 @@ clientCase s =
     ∷ under s (37 + id + cs) LengthValue
     ∷ under s (38 + id + cs) Incomplete
     ∷ under s (38 + id + cs + ms) LengthValue
+    ∷ [])
+    0
+
+-- RULES 3.14, RFC 5246 7.4.1.2. The strict ClientHello: after all of these, no ciphers, no methods,
+-- or bytes behind the methods that are not a length of 2 and as many bytes
+unfoldable pub strictCase : List ℕ → ℕ
+strictCase s =
+    let id = be 1 s 34 in
+    let cs = be 2 s (35 + id) in
+    let behind = 37 + id + cs in
+    let ms = be 1 s behind in
+    let end = 38 + id + cs + ms in
+    inOrder
+    (under s 35 Incomplete
+    ∷ over id 32 Verify
+    ∷ under s (37 + id) Incomplete
+    ∷ is (cs % 2) 1 LengthValue
+    ∷ under s behind LengthValue
+    ∷ under s (38 + id + cs) Incomplete
+    ∷ under s end LengthValue
+    ∷ is cs 0 LengthValue
+    ∷ is ms 0 LengthValue
+    ∷ neither (length s) end (end + 2 + be 2 s end) LengthValue
     ∷ [])
     0
 
@@ -327,6 +354,7 @@ pub record Readers : Type 0 where
   -- the hellos, and what two of them begin with
   pub helloStart : Gives (reading helloStart) startCase (Incomplete ∷ Verify ∷ [])
   pub clientHello : Gives (reading client) clientCase (Incomplete ∷ Verify ∷ LengthValue ∷ [])
+  pub strictHello : Gives strictClient strictCase (Incomplete ∷ Verify ∷ LengthValue ∷ [])
   pub serverHello : (hasExt : Bool) → Gives (reading (server hasExt)) serverCase (Incomplete ∷ Verify ∷ [])
   pub serverByVersion : Gives (byVersion serverVersions) byVersionCase (Incomplete ∷ Verify ∷ Tag ∷ [])
   pub draft18Hello : Gives (reading draft18) draft18Case (Incomplete ∷ [])

@@ -8,6 +8,7 @@ use Rattle.field.specs.Fields.{ruled, step}
 use Rattle.grammar.specs.Splits.{join}
 use Rattle.grammar.specs.Reading.{fieldsAt, blockAt, read}
 use Rattle.grammar.specs.Forms.{reading, byVersion}
+use Rattle.grammar.specs.Strict.{strictly}
 use Rattle.list.specs.Items.{itemsFrom, place}
 use Rattle.write_rules.specs.HelloTexts.{mayWrite, helloBytes, helloText}
 use Rattle.write_rules.specs.MessageTexts.{headText, messageText}
@@ -26,30 +27,40 @@ use Rattle.record_many.specs.Many.{plaintextFrom, recordsTold, many}
 use Rattle.claim_rows.specs.Readings.{rows, ownRows, AllRead}
 
 -- the rows by sevens, the last first
+r28 : AllRead (drop 28 rows)
+unfolding rows messageText headText numberText helloText mayWrite helloBytes join bytesOf message metAt headAt byTypeIn plaintext openedFirst contents firstOf foundAt handshakeFound plainRecord itemsFrom place endOf byVersion certificateRequest strictly reading read fieldsAt blockAt step ruled numberAt be partAt refusal inside
+r28 =
+    ((refl, refl), ((refl, refl), ((refl, refl), ((refl, refl), tt))))
+
 r21 : AllRead (drop 21 rows)
-unfolding rows messageText headText numberText helloText mayWrite helloBytes join bytesOf message metAt headAt byTypeIn plaintext openedFirst contents firstOf foundAt handshakeFound plainRecord itemsFrom place endOf byVersion certificateRequest reading read fieldsAt blockAt step ruled numberAt be partAt refusal inside
+unfolding rows messageText headText numberText helloText mayWrite helloBytes join bytesOf message metAt headAt byTypeIn plaintext openedFirst contents firstOf foundAt handshakeFound plainRecord itemsFrom place endOf byVersion certificateRequest strictly reading read fieldsAt blockAt step ruled numberAt be partAt refusal inside
 r21 =
-    ((refl, refl), ((refl, refl), ((refl, refl), ((refl, refl), ((refl, refl), ((refl, refl), ((refl, refl), tt)))))))
+    ((refl, refl), ((refl, refl), ((refl, refl), ((refl, refl), ((refl, refl), ((refl, refl), ((refl, refl), r28)))))))
 
 r14 : AllRead (drop 14 rows)
-unfolding rows messageText headText numberText helloText mayWrite helloBytes join bytesOf message metAt headAt byTypeIn plaintext openedFirst contents firstOf foundAt handshakeFound plainRecord itemsFrom place endOf byVersion certificateRequest reading read fieldsAt blockAt step ruled numberAt be partAt refusal inside
+unfolding rows messageText headText numberText helloText mayWrite helloBytes join bytesOf message metAt headAt byTypeIn plaintext openedFirst contents firstOf foundAt handshakeFound plainRecord itemsFrom place endOf byVersion certificateRequest strictly reading read fieldsAt blockAt step ruled numberAt be partAt refusal inside
 r14 =
     ((refl, refl), ((refl, refl), ((refl, refl), ((refl, refl), ((refl, refl), ((refl, refl), ((refl, refl), r21)))))))
 
 r7 : AllRead (drop 7 rows)
-unfolding rows messageText headText numberText helloText mayWrite helloBytes join bytesOf message metAt headAt byTypeIn plaintext openedFirst contents firstOf foundAt handshakeFound plainRecord itemsFrom place endOf byVersion certificateRequest reading read fieldsAt blockAt step ruled numberAt be partAt refusal inside
+unfolding rows messageText headText numberText helloText mayWrite helloBytes join bytesOf message metAt headAt byTypeIn plaintext openedFirst contents firstOf foundAt handshakeFound plainRecord itemsFrom place endOf byVersion certificateRequest strictly reading read fieldsAt blockAt step ruled numberAt be partAt refusal inside
 r7 =
     ((refl, refl), ((refl, refl), ((refl, refl), ((refl, refl), ((refl, refl), ((refl, refl), ((refl, refl), r14)))))))
 
 all-read : AllRead rows
-unfolding rows messageText headText numberText helloText mayWrite helloBytes join bytesOf message metAt headAt byTypeIn plaintext openedFirst contents firstOf foundAt handshakeFound plainRecord itemsFrom place endOf byVersion certificateRequest reading read fieldsAt blockAt step ruled numberAt be partAt refusal inside
+unfolding rows messageText headText numberText helloText mayWrite helloBytes join bytesOf message metAt headAt byTypeIn plaintext openedFirst contents firstOf foundAt handshakeFound plainRecord itemsFrom place endOf byVersion certificateRequest strictly reading read fieldsAt blockAt step ruled numberAt be partAt refusal inside
 all-read =
     ((refl, refl), ((refl, refl), ((refl, refl), ((refl, refl), ((refl, refl), ((refl, refl), ((refl, refl), r7)))))))
+
+o56 : AllRead (drop 56 ownRows)
+unfolding ownRows many recordsTold plaintextFrom plaintext openedFirst contents firstOf foundAt cipherSpecFound alertFound handshakeFound applicationFound heartbeatFound changeCipherSpec alertFirst heartbeatOf heartbeatIn cipherSpecAt alertAt applicationData heartbeat metAt headAt plainRecord itemsFrom place endOf reading read fieldsAt blockAt step ruled numberAt be bytesOf partAt refusal inside
+o56 =
+    ((refl, refl), ((refl, refl), ((refl, refl), ((refl, refl), ((refl, refl), tt)))))
 
 o49 : AllRead (drop 49 ownRows)
 unfolding ownRows many recordsTold plaintextFrom plaintext openedFirst contents firstOf foundAt cipherSpecFound alertFound handshakeFound applicationFound heartbeatFound changeCipherSpec alertFirst heartbeatOf heartbeatIn cipherSpecAt alertAt applicationData heartbeat metAt headAt plainRecord itemsFrom place endOf reading read fieldsAt blockAt step ruled numberAt be bytesOf partAt refusal inside
 o49 =
-    ((refl, refl), ((refl, refl), ((refl, refl), ((refl, refl), ((refl, refl), ((refl, refl), tt))))))
+    ((refl, refl), ((refl, refl), ((refl, refl), ((refl, refl), ((refl, refl), ((refl, refl), ((refl, refl), o56)))))))
 
 o42 : AllRead (drop 42 ownRows)
 unfolding ownRows many recordsTold plaintextFrom plaintext openedFirst contents firstOf foundAt cipherSpecFound alertFound handshakeFound applicationFound heartbeatFound changeCipherSpec alertFirst heartbeatOf heartbeatIn cipherSpecAt alertAt applicationData heartbeat metAt headAt plainRecord itemsFrom place endOf reading read fieldsAt blockAt step ruled numberAt be bytesOf partAt refusal inside
@@ -62,12 +73,12 @@ o35 =
     ((refl, refl), ((refl, refl), ((refl, refl), ((refl, refl), ((refl, refl), ((refl, refl), ((refl, refl), o42)))))))
 
 o28 : AllRead (drop 28 ownRows)
-unfolding ownRows many recordsTold plaintextFrom plaintext openedFirst contents firstOf foundAt cipherSpecFound alertFound handshakeFound applicationFound heartbeatFound changeCipherSpec alertFirst heartbeatOf heartbeatIn cipherSpecAt alertAt applicationData heartbeat metAt headAt plainRecord itemsFrom place endOf reading read fieldsAt blockAt step ruled numberAt be bytesOf partAt refusal inside
+unfolding ownRows message metAt headAt byTypeIn serverMessage wholeBody sessionTicket certificateRequest plaintext openedFirst contents firstOf foundAt cipherSpecFound alertFound handshakeFound plainRecord itemsFrom endOf byVersion reading read fieldsAt blockAt step ruled numberAt cipherSpecAt alertAt be bytesOf partAt refusal inside many recordsTold plaintextFrom applicationFound heartbeatFound changeCipherSpec alertFirst heartbeatOf heartbeatIn applicationData heartbeat place
 o28 =
     ((refl, refl), ((refl, refl), ((refl, refl), ((refl, refl), ((refl, refl), ((refl, refl), ((refl, refl), o35)))))))
 
 o21 : AllRead (drop 21 ownRows)
-unfolding ownRows message metAt headAt byTypeIn serverMessage wholeBody sessionTicket certificateRequest plaintext openedFirst contents firstOf foundAt cipherSpecFound alertFound handshakeFound plainRecord itemsFrom endOf byVersion reading read fieldsAt blockAt step ruled numberAt cipherSpecAt alertAt be bytesOf partAt refusal inside
+unfolding ownRows message metAt headAt byTypeIn serverMessage wholeBody sessionTicket certificateRequest plaintext openedFirst contents firstOf foundAt handshakeFound plainRecord itemsFrom endOf byVersion reading read fieldsAt blockAt step ruled numberAt be bytesOf partAt refusal inside cipherSpecFound alertFound cipherSpecAt alertAt
 o21 =
     ((refl, refl), ((refl, refl), ((refl, refl), ((refl, refl), ((refl, refl), ((refl, refl), ((refl, refl), o28)))))))
 
@@ -82,7 +93,7 @@ o7 =
     ((refl, refl), ((refl, refl), ((refl, refl), ((refl, refl), ((refl, refl), ((refl, refl), ((refl, refl), o14)))))))
 
 all-own : AllRead ownRows
-unfolding ownRows message metAt headAt byTypeIn serverMessage wholeBody sessionTicket certificateRequest plaintext openedFirst contents firstOf foundAt handshakeFound plainRecord itemsFrom endOf byVersion reading read fieldsAt blockAt step ruled numberAt be bytesOf partAt refusal inside
+unfolding ownRows message metAt headAt byTypeIn serverMessage wholeBody sessionTicket certificateRequest plaintext openedFirst contents firstOf foundAt handshakeFound plainRecord itemsFrom endOf byVersion strictly reading read fieldsAt blockAt step ruled numberAt be bytesOf partAt refusal inside
 all-own =
     ((refl, refl), ((refl, refl), ((refl, refl), ((refl, refl), ((refl, refl), ((refl, refl), ((refl, refl), o7)))))))
 

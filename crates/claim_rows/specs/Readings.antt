@@ -1,13 +1,14 @@
--- The eighteen rows of RULES 8 in one table, and readings of our own in a second one: a message of
--- each type but 0x00, which row 13 has, a ServerHello of each version, records of each type, joined
--- ones. Bytes are written by their number: `03 000001` is `bytesOf 4 0x03_000001`.
+-- The eighteen rows of RULES 8 in one table, and readings of our own in a second one: strict
+-- ClientHellos, a message of each type but 0x00, which row 13 has, a ServerHello of each version,
+-- records of each type, joined ones. Bytes are written by their number: `03 000001` is `bytesOf 4
+-- 0x03_000001`.
 use Rattle.refusal.specs.{ℕ, _+_, _≡_, List, [], _∷_, _++_, Option, none, some, replicate, numberOf, Answer, accepted, then, numberIn, valuesIn, Reason, Incomplete, Complete, Verify, LengthValue, Tag, Switch, TooLarge, NoSuch}
 use Rattle.wire.specs.{partOf, bytesOf, OptView, Absent, Present, View}
 use Rattle.field.specs.{sized}
 use Rattle.grammar.specs.{reading, byVersion}
 use Rattle.list.specs.{items, place, bytesHanded}
 use Rattle.write_rules.specs.{helloText, headText, messageText}
-use Rattle.read_client.specs.{client, TlsClientHelloContents}
+use Rattle.read_client.specs.{client, strictClient, TlsClientHelloContents}
 use Rattle.read_server.specs.{serverVersions, TlsServerHelloContents}
 use Rattle.read_certs.specs.{certificate, certificateRequest, TlsCertificateRequestContents}
 use Rattle.message.specs.{HelloRequest, ClientHello, ServerHello, ServerHelloV13Draft18, NewSessionTicket, EndOfEarlyData, HelloRetryRequest, Certificate, ServerKeyExchange, CertificateRequest, ServerDone, CertificateVerify, ClientKeyExchange, Finished, CertificateStatus, NextProtocol, KeyUpdate, Unknown}
@@ -34,10 +35,11 @@ abbrev pub reject : {A : Type 0} → ℕ → (List ℕ → Answer A) → List �
 reject {A} n call s why = record { row = n; Value = A; call = call; input = s; number = numberOf why; values = none }
 
 -- a function is told by what its contract says: `reading client` is
--- `parse_tls_handshake_client_hello`, `byVersion serverVersions` and `certificateRequest` are those
--- of their bodies, `message` is `parse_tls_message_handshake`, `changeCipherSpec`, `alertFirst` and
--- `heartbeatOf` are those of these messages, `plaintext` is `parse_tls_plaintext`, `many` is
--- `tls_parser_many`; and this one hands what is read as a ClientHello to `gen_tls_clienthello`
+-- `parse_tls_handshake_client_hello`, `strictClient` is `parse_tls_handshake_client_hello_strict`,
+-- `byVersion serverVersions` and `certificateRequest` are those of their bodies, `message` is
+-- `parse_tls_message_handshake`, `changeCipherSpec`, `alertFirst` and `heartbeatOf` are those of
+-- these messages, `plaintext` is `parse_tls_plaintext`, `many` is `tls_parser_many`; and this one
+-- hands what is read as a ClientHello to `gen_tls_clienthello`
 abbrev pub writtenBack : List ℕ → Answer (List ℕ)
 writtenBack s = then (reading client s) (λ c. messageText (headText 0x01) (helloText client s c))
 
@@ -81,9 +83,13 @@ unfoldable pub rows : List RulesRow
 rows =
     reject 1 (reading client) [] Incomplete
     ∷ accept 2 (reading client) (H []) (allEmpty Absent 38)
+    ∷ reject 2 strictClient (H []) LengthValue
     ∷ accept 3 (reading client) (H (bytesOf 1 0x00)) (allEmpty Absent 38)
+    ∷ reject 3 strictClient (H (bytesOf 1 0x00)) LengthValue
     ∷ accept 4 (reading client) (H (bytesOf 2 0x0000)) (allEmpty (Present (span 40 0)) 40)
+    ∷ reject 4 strictClient (H (bytesOf 2 0x0000)) LengthValue
     ∷ accept 5 (reading client) (H (bytesOf 2 0x0001)) (allEmpty Absent 38)
+    ∷ reject 5 strictClient (H (bytesOf 2 0x0001)) LengthValue
     ∷ reject 6 (reading client) (from0303Z (bytesOf 1 0x21)) Verify
     ∷ reject 7 (reading client) (from0303Z (bytesOf 1 0x20 ++ replicate 31 0)) Incomplete
     ∷ reject 8 (reading client) (from0303Z (bytesOf 4 0x00_0001_00)) LengthValue
@@ -125,12 +131,22 @@ plain t n count dropped = record { hdr = record { «record_type» = t; version =
 abbrev pub beat : ℕ → ℕ → List ℕ
 beat kind n = bytesOf 5 (0x18_0303_0000 + 3 + n) ++ (bytesOf 1 kind ++ (bytesOf 2 0x0000 ++ replicate n 0))
 
--- our own: an id of exactly 32 and each version; each type, its parts of lengths that differ; each
--- record type, and joined records
+-- what is handed out of a ClientHello with one cipher and one method
+abbrev pub oneEach : OptView → ℕ → TlsClientHelloContents
+oneEach ext tail = record { version = 0x0303; random = span 2 32; «session_id» = Absent; ciphers = span 37 2; comp = span 40 1; ext = ext; tail = tail }
+
+-- our own: an id of exactly 32, strict hellos, and each version; each type, its parts of lengths
+-- that differ; each record type, and joined records
 unfoldable pub ownRows : List RulesRow
 ownRows =
     accept 0 (reading client) (from0303Z (bytesOf 1 0x20 ++ (replicate 32 0 ++ bytesOf 8 0x0004_002f_0035_01_00)))
     (record { version = 0x0303; random = span 2 32; «session_id» = Present (span 35 32); ciphers = span 69 4; comp = span 74 1; ext = Absent; tail = 75 })
+    ∷ reject 0 strictClient (from0303Z (bytesOf 3 0x00_0000)) Incomplete
+    ∷ reject 0 strictClient (from0303Z (bytesOf 6 0x00_0002_002f_00)) LengthValue
+    ∷ accept 0 strictClient (from0303Z (bytesOf 7 0x00_0002_002f_01_00)) (oneEach Absent 41)
+    ∷ reject 0 strictClient (from0303Z (bytesOf 8 0x00_0002_002f_01_00_00)) LengthValue
+    ∷ accept 0 strictClient (from0303Z (bytesOf 9 0x00_0002_002f_01_00_0000)) (oneEach (Present (span 43 0)) 43)
+    ∷ reject 0 strictClient (from0303Z (bytesOf 9 0x00_0002_002f_01_00_0001)) LengthValue
     ∷ reject 0 (byVersion serverVersions) (S 0x02ff) Tag
     ∷ accept 0 (byVersion serverVersions) (S 0x0300) (plainServer 0x0300 Absent 38)
     ∷ accept 0 (byVersion serverVersions) (S 0x0301) (plainServer 0x0301 (Present (span 40 0)) 40)

@@ -1,23 +1,26 @@
--- Demand 3, its writing half, of the three hellos, instances of the one theorem over every form.
--- Assumes nothing.
+-- Demand 3, its writing half, of the three hellos and of the strict ClientHello, instances of the
+-- one theorem over every form. Assumes nothing.
 use Prim.Native.Nat.{ℕ, _<_, _≤_}
 use mathlib.Core.Path.{_≡_, refl, ap, _∙_}
 use mathlib.Core.Bool.{Bool, true, false}
-use mathlib.Core.List.{List}
+use mathlib.Core.List.{List, [], _++_, append-nil}
 use mathlib.Core.Option.{none, some}
 use native.Mathlib.Omega.{arith}
-use lib.ListN.{length}
+use lib.ListN.{length, take, drop, take-append-drop}
 use lib.Dec.{eqb}
 use Rattle.refusal.specs.Answers.{accepted}
 use Rattle.refusal.proofs.Then.{not-both, then-accepted}
 use Rattle.wire.specs.Parts.{pick, lookup}
 use Rattle.wire.specs.Numbers.{Bytes, be, numberAt}
 use Rattle.wire.proofs.Numbers.{be-of}
-use Rattle.grammar.specs.Forms.{reading, ifListed, byVersion}
+use Rattle.grammar.specs.Forms.{Form, reading, ifListed, byVersion}
+use Rattle.grammar.specs.Hellos.{clientToFill}
+use Rattle.grammar.specs.Strict.{ToFill, ByExactSplit}
 use Rattle.grammar.proofs.Versions.{decided}
 use Rattle.read_client.specs.Client.{client}
 use Rattle.read_client.specs.declared.TlsClientHelloContents.{TlsClientHelloContents}
 use Rattle.read_client.proofs.Whole.{client-lawful}
+use Rattle.read_client.proofs.Strict.{strict-demand3}
 use Rattle.read_server.specs.Server.{server, serverVersions, draft18}
 use Rattle.read_server.proofs.Whole.{server-lawful, draft18-lawful}
 use Rattle.read_server.specs.declared.tlsv12.TlsServerHelloContents.{TlsServerHelloContents}
@@ -29,7 +32,7 @@ use Rattle.claim_wayback.proofs.Hellos.{OfHello, writes-back, reads-aga
 use Rattle.write_client.proofs.Lengths.{client-length, client-bounds}
 use Rattle.write_server.proofs.Lengths.{server-length, server-bounds}
 use Rattle.write_draft18.proofs.Lengths.{draft18-length, draft18-bounds}
-use Rattle.claim_wayback.specs.WayBack.{WritesBack, BackByVersion, OneText, ReadsAgain, AgainByVersion}
+use Rattle.claim_wayback.specs.WayBack.{added, framed, WritesBack, WritesWhole, BackByVersion, OneText, ReadsAgain, AgainByVersion}
 
 server-block : (hasExt : Bool) → OfHello (server hasExt .grammar .block)
 server-block true = refl
@@ -88,6 +91,22 @@ pub writes-client : (body : List ℕ) → Bytes body → WritesBack client 0x01 
 writes-client body bytes =
     writes-back client client-lawful refl 0x01 131396 (omega arith) body bytes
     (λ c o. omega (arith, client-length body c o, client-bounds body c o))
+
+-- the bytes before an empty tail are all
+whole : (n : ℕ) (s : List ℕ) → drop n s ≡ [] → take n s ≡ s
+whole n s e = let t : take n s ++ drop n s ≡ s = take-append-drop n s in rw (e, append-nil) at t
+
+-- so a hello that was read strictly, whatever its form, is written back whole
+writes-whole : {C : Type 0} (k : Form C) (ts : ToFill (k .grammar .rows)) (msgType most : ℕ) (body : List ℕ)
+    → ByExactSplit k ts body → WritesBack k msgType most body → WritesWhole k ts msgType body
+writes-whole k ts msgType most body d w c e =
+    w .text c (d .plainToo c e)
+    ∙ ap (λ (t : List ℕ). accepted (framed msgType (t ++ added (k .block c))))
+    (whole (k .tail c) body (d .splits c e .1 .1))
+
+pub writes-strict : (body : List ℕ) → Bytes body → WritesWhole client clientToFill 0x01 body
+writes-strict body bytes =
+    writes-whole client clientToFill 0x01 131396 body (strict-demand3 body bytes) (writes-client body bytes)
 
 pub writes-server : (hasExt : Bool) (body : List ℕ) → Bytes body → WritesBack (server hasExt) 0x02 65607 body
 writes-server hasExt body bytes =

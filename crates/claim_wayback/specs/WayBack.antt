@@ -1,11 +1,11 @@
 -- Demand 3, its writing half: what is written of a hello that was read, and what reading finds of
--- hellos, messages and records that were written, whatever stands behind them. RULES 0.3, 7.6, 7.9,
--- 7.13 to 7.15, 9.11. Shown by `proofs/Hellos.antt` for every form, `proofs/Demand3.antt`,
--- `proofs/Contents.antt` and `proofs/WayBack.antt`.
+-- hellos, messages and records that were written, whatever stands behind them. RULES 0.3, 3.16,
+-- 7.6, 7.9, 7.13 to 7.15, 9.11. Shown by `proofs/Hellos.antt` for every form,
+-- `proofs/Demand3.antt`, `proofs/Contents.antt` and `proofs/WayBack.antt`.
 use Rattle.refusal.specs.{ℕ, _+_, _<_, _≤_, _≡_, List, [], _∷_, _++_, Bool, true, Option, none, some, length, take, drop, unplaced, Answer, accepted, refused, giving, NoRoom}
 use Rattle.wire.specs.{partOf, optPartOf, lookup, Bytes, bytesOf, room, written, OptView, Absent, Present, View}
 use Rattle.field.specs.{Field, fieldBytes}
-use Rattle.grammar.specs.{extensions, Pieces, Form, allNamed, pieces, reading, byVersion, ifListed}
+use Rattle.grammar.specs.{extensions, Pieces, Form, allNamed, pieces, reading, byVersion, ifListed, ToFill, strictly}
 use Rattle.write_rules.specs.{helloText, headText, messageText}
 use Rattle.read_client.specs.{client, TlsClientHelloContents}
 use Rattle.read_server.specs.{server, serverVersions, draft18, TlsServerHelloContents, TlsServerHelloV13Draft18Contents}
@@ -51,6 +51,10 @@ pub record WritesBack {C : Type 0} (k : Form C) (msgType most : ℕ) (body : Lis
   -- what is added included, the text has at most four bytes more than the bound: an output of so
   -- many is enough
   pub longest : (c : C) → reading k body ≡ accepted c → length (framed msgType (back k body c)) ≤ 4 + most
+
+-- RULES 3.16: of a hello that was read strictly, type and length, the whole body, and what is added
+abbrev pub WritesWhole : {C : Type 0} (k : Form C) → ToFill (k .grammar .rows) → ℕ → List ℕ → Type 0
+WritesWhole {C} k ts msgType body = (c : C) → strictly k ts body ≡ accepted c → messageText (headText msgType) (helloText k body c) ≡ accepted (framed msgType (body ++ added (k .block c)))
 
 -- the text of a ServerHello that was read by the form that its version announces
 abbrev pub BackByVersion : List ℕ → Type 0

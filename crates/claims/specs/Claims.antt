@@ -1,15 +1,16 @@
 -- Everything that is claimed beyond the contracts of single functions, of the forms, lists,
 -- messages and records of this code: one field for each theorem. RULES cites them, or what they
 -- claim, beside its rules. `claims::all_claims` promises them all, so that none can go missing.
--- `EveryForm` and `EveryListing` (`grammar/specs/Demand3.antt`), over all contents, are what the
--- fields of demand 3 are shown by, and have no field.
+-- `EveryForm` and `EveryListing` (`grammar/specs/Demand3.antt`) and `EveryStrict`
+-- (`grammar/specs/Strict.antt`), over all contents, are what the fields of demand 3 are shown by,
+-- and have no field.
 use Rattle.refusal.specs.{ℕ, _≤_, _≡_, Bool, List, getD, RefT, NumbersApart, accepted, OneResult, true, false}
 use Rattle.wire.specs.{ifSome, partOf, partSays, Bytes, numberSays, EachUndoes, writeSays, View}
 use Rattle.field.specs.{Field, fixed, sized, least}
-use Rattle.grammar.specs.{BySplit, ByVersion}
+use Rattle.grammar.specs.{clientToFill, BySplit, ByVersion, ByExactSplit}
 use Rattle.list.specs.{NoneMore, ByItems}
 use Rattle.read_start.specs.Start.{startSays}
-use Rattle.read_client.specs.{client, clientSays, TlsClientHelloContents}
+use Rattle.read_client.specs.{client, clientSays, TellsExactness, TlsClientHelloContents}
 use Rattle.read_server.specs.{server, serverVersions, serverSays, draft18, draft18Says, TlsServerHelloContents, TlsServerHelloV13Draft18Contents}
 use Rattle.read_certs.specs.{certificate, certificateSays, request, requestSays, status, statusSays, OfRequest}
 use Rattle.cert_reader.specs.Chain.{SameItems}
@@ -33,7 +34,7 @@ use Rattle.norrabist_c.specs.Contents.{ContentsBack}
 use Rattle.norrabist_c.specs.Slices.{SlicesSame}
 use Rattle.claim_rows.specs.Readings.{rows, ownRows, AllRead}
 use Rattle.claim_readers.specs.Readers.{Readers}
-use Rattle.claim_wayback.specs.WayBack.{EveryText, WritesBack, ReadsAgain, BackByVersion, AgainByVersion, OneText, WayBack}
+use Rattle.claim_wayback.specs.WayBack.{EveryText, WritesBack, WritesWhole, ReadsAgain, BackByVersion, AgainByVersion, OneText, WayBack}
 use Rattle.claim_writers.specs.Writers.{Writers}
 use Rattle.claims.specs.Crossed.{HeaderAndRecord, isWritten}
 
@@ -80,10 +81,14 @@ pub record Claims : Type 0 where
   pub readsDraft18 : OfBytes (BySplit draft18)
   pub readsByVersion : OfBytes (ByVersion serverVersions)
   pub readsAsMessage : (s : List ℕ) → AsMessage s
+  -- the same of the strict ClientHello, and that it goes by what `exactness` tells of the plain one
+  pub readsStrict : OfBytes (ByExactSplit client clientToFill)
+  pub tellsStrict : OfBytes TellsExactness
   -- any text, written; demand 3, its writing half: what was read, written back, with at most so
   -- many bytes before the tail
   pub everyText : EveryText
   pub writesClient : OfBytes (WritesBack client 0x01 131396)
+  pub writesStrict : OfBytes (WritesWhole client clientToFill 0x01)
   pub writesServer : (hasExt : Bool) → OfBytes (WritesBack (server hasExt) 0x02 65607)
   pub writesDraft18 : OfBytes (WritesBack draft18 0x02 65573)
   pub writesByVersion : OfBytes BackByVersion

@@ -86,7 +86,7 @@ view-of (vector w r) s at p rest h e =
 bytes-drop : (s : List ℕ) (at : ℕ) → Bytes s → Bytes (drop at s)
 bytes-drop s at b i = rw getD-drop (b (at + i))
 
-length-part : (s : List ℕ) (b n : ℕ) → b + n ≤ length s → length (partOf s (view b n)) ≡ n
+pub length-part : (s : List ℕ) (b n : ℕ) → b + n ≤ length s → length (partOf s (view b n)) ≡ n
 length-part s b n h = rw (part-of s b n h) (length-take-le n (drop b s) (rw length-drop (omega arith)))
 
 -- the bytes at a place: those of a part, and those past it

@@ -1,6 +1,6 @@
 -- Demand 3, its reading half, over every lawful form and every body of bytes. Assumes nothing.
 use Prim.Native.Nat.{ℕ, _≤_}
-use mathlib.Core.Path.{_≡_, refl}
+use mathlib.Core.Path.{_≡_, refl, sym, _∙_}
 use mathlib.Core.Logic.{_⊎_, inl, inr}
 use mathlib.Core.List.{List}
 use mathlib.Core.Option.{Option, none, some}
@@ -85,6 +85,14 @@ module _ {C : Type 0} (k : Form C) (l : Lawful k) (s : List ℕ) (b : Bytes s) w
           × (_≡_ {A = Answer C} (accepted (valueOf k s h)) (refused r))) → FirstLacks (k .grammar .rows) 0 s r
       go (inl x) = lacks (k .grammar) s b r x
       go (inr (h, x, z)) = absurd (not-both refl z)
+
+-- a value that was read is the one made of the pieces that it names
+pub made-of : {C : Type 0} {k : Form C} {s : List ℕ} {c : C} → BySplit k s → reading k s ≡ accepted c
+    → c ≡ valueOf k s (handedOf (k .grammar) (pieces k s c))
+made-of {C} {k} {s} {c} d e =
+    let q : accepted c ≡ accepted (valueOf k s (handedOf (k .grammar) (pieces k s c))) =
+    sym e ∙ d .accepts (pieces k s c) (d .splits c e) in
+    cc
 
 -- demand 3, its reading half
 pub by-split : {C : Type 0} → EveryForm C

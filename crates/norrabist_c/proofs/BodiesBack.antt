@@ -39,7 +39,7 @@ use Rattle.norrabist_c.specs.BodiesBack.{BodiesBack, ListsBack, certific
 use Rattle.norrabist_c.specs.BodiesBack.{protocolFrom, requestFrom, statusFrom, ticketFrom}
 use Rattle.norrabist_c.specs.Lists.{itemTold}
 use Rattle.norrabist_c.proofs.BodyParts.{by-form, no-pairs}
-use Rattle.norrabist_c.proofs.HelloLengths.{made}
+use Rattle.grammar.proofs.Forms.{made-of}
 
 all-three : {A : Type 0} (f : ℕ → ℕ → ℕ → A) {k l m x y z : ℕ} → k ≡ x → l ≡ y → m ≡ z → f k l m ≡ f x y z
 all-three f p q r = rw (p, q, r)
@@ -49,7 +49,7 @@ module _ (s : List ℕ) (b : Bytes s) where
       → c ≡ certificateFrom (certificateTold (accepted c))
   unfolding viewsOf join
   chain c e =
-      let m = made (splits-certificate s b) e in
+      let m = made-of (splits-certificate s b) e in
       let l : c .«cert_chain» .len ≡ length (partOf s (c .«cert_chain»)) =
       ap (λ (x : TlsCertificateContents). x .«cert_chain» .len) m in
       let a : c .«cert_chain» .start ≡ 3 = ap (λ (x : TlsCertificateContents). x .«cert_chain» .start) m in
@@ -61,7 +61,7 @@ module _ (s : List ℕ) (b : Bytes s) where
       → c ≡ statusFrom (statusTold (accepted c))
   unfolding viewsOf join
   response c e =
-      let m = made (splits-status s b) e in
+      let m = made-of (splits-status s b) e in
       let l : c .blob .len ≡ length (partOf s (c .blob)) = ap (λ (x : TlsCertificateStatusContents). x .blob .len) m in
       let a : c .blob .start ≡ 4 = ap (λ (x : TlsCertificateStatusContents). x .blob .start) m
       ∙ simp length-bytes in
@@ -77,7 +77,7 @@ module _ (s : List ℕ) (b : Bytes s) where
       → c ≡ protocolFrom (protocolTold (accepted c))
   unfolding viewsOf join
   protocol c e =
-      let m = made (splits-next-protocol s b) e in
+      let m = made-of (splits-next-protocol s b) e in
       let k : c .«selected_protocol» .len ≡ length (partOf s (c .«selected_protocol»)) =
       ap (λ (x : TlsNextProtocolContent). x .«selected_protocol» .len) m in
       let l : c .padding .len ≡ length (partOf s (c .padding)) =
@@ -115,7 +115,7 @@ module _ (s : List ℕ) (b : Bytes s) where
       → c ≡ requestFrom (requestTold (accepted c))
   unfolding viewsOf join
   long c e =
-      let m = made (splits-request true s b) e in
+      let m = made-of (splits-request true s b) e in
       let n = length (optPartOf s (c .«sig_hash_algs»)) in
       let k : c .«cert_types» .len ≡ length (partOf s (c .«cert_types»)) =
       ap (λ (x : TlsCertificateRequestContents). x .«cert_types» .len) m in
@@ -140,7 +140,7 @@ module _ (s : List ℕ) (b : Bytes s) where
   unfolding viewsOf join
   short c e =
       let d = splits-request false s b in
-      let m = made d e in
+      let m = made-of d e in
       let n : length (optPartOf s (c .«sig_hash_algs»)) ≡ 0 = d .splits c e .obey .1 .0 in
       let k : c .«cert_types» .len ≡ length (partOf s (c .«cert_types»)) =
       ap (λ (x : TlsCertificateRequestContents). x .«cert_types» .len) m in

@@ -1,7 +1,7 @@
 -- What was read is made of its pieces: so the lengths of its parts are those that the grammar
 -- allows, and each part begins behind those before it. Assumes nothing.
-use Prim.Native.Nat.{ℕ, _+_, _^_, _<_}
-use mathlib.Core.Path.{_≡_, refl, sym, ap, _∙_}
+use Prim.Native.Nat.{ℕ, _^_, _<_}
+use mathlib.Core.Path.{_≡_, refl, ap, _∙_}
 use mathlib.Core.Logic.{_⊎_, inl, inr, ⊎-elim}
 use mathlib.Core.Bool.{Bool, true, false}
 use mathlib.Core.List.{List}
@@ -19,9 +19,8 @@ use Rattle.wire.specs.declared.number.Number.{Number}
 use Rattle.wire.proofs.Numbers.{be-lt}
 use Rattle.field.specs.Fields.{Field, sized}
 use Rattle.field.proofs.Steps.{step-back}
-use Rattle.grammar.specs.Demand3.{BySplit}
-use Rattle.grammar.specs.Forms.{Form, reading, valueOf, pieces}
-use Rattle.grammar.specs.Splits.{handedOf, viewsOf}
+use Rattle.grammar.specs.Forms.{reading}
+use Rattle.grammar.specs.Splits.{viewsOf}
 use Rattle.list.specs.Items.{itemFrom, items, numberPlace, place}
 use Rattle.list.proofs.Fields.{item-got}
 use Rattle.read_certs.specs.Certs.{certificate, certificateRequest, request, status}
@@ -33,7 +32,7 @@ use Rattle.read_others.specs.Body.{nextProtocol}
 use Rattle.read_others.specs.declared.next_protocol.TlsNextProtocolContent.{TlsNextProtocolContent}
 use Rattle.read_others.proofs.Whole.{splits-next-protocol}
 use Rattle.norrabist_c.specs.Parts.{optTold}
-use Rattle.norrabist_c.proofs.HelloLengths.{made}
+use Rattle.grammar.proofs.Forms.{made-of}
 
 module _ (s : List ℕ) (b : Bytes s) {c : TlsCertificateContents} (e : reading certificate s ≡ accepted c) where
   pub chain-len : c .«cert_chain» .len < 16777216
@@ -41,7 +40,7 @@ module _ (s : List ℕ) (b : Bytes s) {c : TlsCertificateContents} (e : reading 
   chain-len =
       let d = splits-certificate s b in
       let l : c .«cert_chain» .len ≡ length (partOf s (c .«cert_chain»)) =
-      ap (λ (x : TlsCertificateContents). x .«cert_chain» .len) (made d e) in
+      ap (λ (x : TlsCertificateContents). x .«cert_chain» .len) (made-of d e) in
       omega (arith, l, d .splits c e .obey .0 .0)
 
 module _ (s : List ℕ) (b : Bytes s) {c : TlsCertificateStatusContents} (e : reading status s ≡ accepted c) where
@@ -50,7 +49,7 @@ module _ (s : List ℕ) (b : Bytes s) {c : TlsCertificateStatusContents} (e : re
   blob-len =
       let d = splits-status s b in
       let l : c .blob .len ≡ length (partOf s (c .blob)) =
-      ap (λ (x : TlsCertificateStatusContents). x .blob .len) (made d e) in
+      ap (λ (x : TlsCertificateStatusContents). x .blob .len) (made-of d e) in
       omega (arith, l, d .splits c e .obey .1 .0 .0)
 
 module _ (s : List ℕ) (b : Bytes s) {c : TlsNextProtocolContent} (e : reading nextProtocol s ≡ accepted c) where
@@ -59,7 +58,7 @@ module _ (s : List ℕ) (b : Bytes s) {c : TlsNextProtocolContent} (e : reading 
   protocol-len =
       let d = splits-next-protocol s b in
       let l : c .«selected_protocol» .len ≡ length (partOf s (c .«selected_protocol»)) =
-      ap (λ (x : TlsNextProtocolContent). x .«selected_protocol» .len) (made d e) in
+      ap (λ (x : TlsNextProtocolContent). x .«selected_protocol» .len) (made-of d e) in
       omega (arith, l, d .splits c e .obey .0 .0)
 
   pub padding-len : c .padding .len < 256
@@ -67,7 +66,7 @@ module _ (s : List ℕ) (b : Bytes s) {c : TlsNextProtocolContent} (e : reading 
   padding-len =
       let d = splits-next-protocol s b in
       let l : c .padding .len ≡ length (partOf s (c .padding)) =
-      ap (λ (x : TlsNextProtocolContent). x .padding .len) (made d e) in
+      ap (λ (x : TlsNextProtocolContent). x .padding .len) (made-of d e) in
       omega (arith, l, d .splits c e .obey .1 .0 .0)
 
 -- a request is read by one of its forms
@@ -90,7 +89,7 @@ module _ (long : Bool) (s : List ℕ) (b : Bytes s) {c : TlsCertificateRequestCo
   form-types =
       let d = splits-request long s b in
       let l : c .«cert_types» .len ≡ length (partOf s (c .«cert_types»)) =
-      ap (λ (x : TlsCertificateRequestContents). x .«cert_types» .len) (made d e) in
+      ap (λ (x : TlsCertificateRequestContents). x .«cert_types» .len) (made-of d e) in
       omega (arith, l, d .splits c e .obey .0 .0)
 
   form-names : c .«unparsed_ca» .len < 65536
@@ -98,7 +97,7 @@ module _ (long : Bool) (s : List ℕ) (b : Bytes s) {c : TlsCertificateRequestCo
   form-names =
       let d = splits-request long s b in
       let l : c .«unparsed_ca» .len ≡ length (partOf s (c .«unparsed_ca»)) =
-      ap (λ (x : TlsCertificateRequestContents). x .«unparsed_ca» .len) (made d e) in
+      ap (λ (x : TlsCertificateRequestContents). x .«unparsed_ca» .len) (made-of d e) in
       omega (arith, l, d .splits c e .obey .1 .1 .0 .0)
 
 -- by the long form there are pairs, by the short one none
@@ -108,7 +107,7 @@ module _ (s : List ℕ) (b : Bytes s) {c : TlsCertificateRequestContents} where
   form-pairs e =
       let d = splits-request true s b in
       let l : optTold (c .«sig_hash_algs») .len ≡ length (optPartOf s (c .«sig_hash_algs»)) =
-      ap (λ (x : TlsCertificateRequestContents). optTold (x .«sig_hash_algs») .len) (made d e) in
+      ap (λ (x : TlsCertificateRequestContents). optTold (x .«sig_hash_algs») .len) (made-of d e) in
       omega (arith, l, d .splits c e .obey .1 .0 .0)
 
   pub no-pairs : reading (request false) s ≡ accepted c → c .«sig_hash_algs» ≡ Absent
@@ -116,7 +115,7 @@ module _ (s : List ℕ) (b : Bytes s) {c : TlsCertificateRequestContents} where
   no-pairs e =
       let d = splits-request false s b in
       let o : length (optPartOf s (c .«sig_hash_algs»)) ≡ 0 = d .splits c e .obey .1 .0 in
-      ap (λ (x : TlsCertificateRequestContents). x .«sig_hash_algs») (made d e) ∙ rw o
+      ap (λ (x : TlsCertificateRequestContents). x .«sig_hash_algs») (made-of d e) ∙ rw o
 
   module _ (e : certificateRequest s ≡ accepted c) where
     pub types-len : c .«cert_types» .len < 256

@@ -1,26 +1,25 @@
 -- A hello that was read is made of its pieces: so its lengths are those that the grammar allows.
 -- Assumes nothing.
-use Prim.Native.Nat.{ℕ, _+_, _<_, _≤_}
-use mathlib.Core.Path.{_≡_, refl, sym, ap, _∙_}
+use Prim.Native.Nat.{ℕ, _<_}
+use mathlib.Core.Path.{_≡_, refl, ap}
 use mathlib.Core.Bool.{Bool, true, false}
 use mathlib.Core.List.{List}
 use mathlib.Core.Option.{Option, none, some}
 use native.Mathlib.Omega.{arith}
 use lib.Dec.{eqb}
 use lib.ListN.{length}
-use Rattle.refusal.specs.Answers.{Answer, accepted, refused, then}
+use Rattle.refusal.specs.Answers.{accepted}
 use Rattle.refusal.proofs.Then.{not-both, then-accepted}
 use Rattle.wire.specs.Numbers.{Bytes, numberAt}
 use Rattle.wire.specs.Parts.{lookup, partOf}
 use Rattle.field.specs.Fields.{Field}
-use Rattle.wire.specs.declared.number.Number.{Number}
 use Rattle.wire.specs.declared.view.View.{View}
 use Rattle.wire.specs.declared.view.OptView.{OptView}
-use Rattle.wire.specs.declared.view.OptView.the-variants.{Absent, Present}
-use Rattle.grammar.specs.Forms.{Form, absentIfEmpty, reading, valueOf, pieces, byVersion, ifListed}
+use Rattle.grammar.specs.Forms.{Form, absentIfEmpty, reading, pieces, byVersion, ifListed}
 use Rattle.grammar.specs.Hellos.{extensions}
 use Rattle.grammar.specs.Splits.{Split, BlockObeys, blockView, handedOf, join, viewsOf}
 use Rattle.grammar.specs.Demand3.{BySplit}
+use Rattle.grammar.proofs.Forms.{made-of}
 use Rattle.message.proofs.Lookup.{_&_, by-rows}
 use Rattle.read_client.specs.Client.{client}
 use Rattle.read_client.specs.declared.TlsClientHelloContents.{TlsClientHelloContents}
@@ -33,14 +32,7 @@ use Rattle.read_server.specs.declared.tlsv12.TlsServerHelloContents.{TlsServerH
 use Rattle.read_server.specs.declared.tlsv13draft18.TlsServerHelloV13Draft18Contents.{TlsServerHelloV13Draft18Contents}
 use Rattle.read_server.proofs.Whole as servers
 use Rattle.norrabist_c.specs.Parts.{optTold}
-
--- a value that was read is the one made of the pieces that it names
-pub made : {C : Type 0} {k : Form C} {s : List ℕ} {c : C} → BySplit k s → reading k s ≡ accepted c
-    → c ≡ valueOf k s (handedOf (k .grammar) (pieces k s c))
-made {C} {k} {s} {c} d e =
-    let q : accepted c ≡ accepted (valueOf k s (handedOf (k .grammar) (pieces k s c))) =
-    sym e ∙ d .accepts (pieces k s c) (d .splits c e) in
-    cc
+use Rattle.norrabist_c.specs.Hellos.{ClientFits}
 
 -- a part that is absent where it is empty is no longer than it would be
 short : (x : OptView) (v : View) → x ≡ absentIfEmpty v → v .len < 256 → optTold x .len < 256
@@ -73,45 +65,48 @@ module _ (s : List ℕ) (b : Bytes s) where
     abbrev split : Split (client .grammar) s (pieces client s c)
     split = clients.demand3 s b .splits c e
 
-    pub ciphers-len : c .ciphers .len < 65536
+    ciphers-len : c .ciphers .len < 65536
     unfolding viewsOf
     ciphers-len =
         let l : c .ciphers .len ≡ length (partOf s (c .ciphers)) =
-        ap (λ (x : TlsClientHelloContents). x .ciphers .len) (made (clients.demand3 s b) e) in
+        ap (λ (x : TlsClientHelloContents). x .ciphers .len) (made-of (clients.demand3 s b) e) in
         omega (arith, l, split .obey .1 .1 .1 .0 .0)
 
-    pub comp-len : c .comp .len < 256
+    comp-len : c .comp .len < 256
     unfolding viewsOf
     comp-len =
         let l : c .comp .len ≡ length (partOf s (c .comp)) =
-        ap (λ (x : TlsClientHelloContents). x .comp .len) (made (clients.demand3 s b) e) in
+        ap (λ (x : TlsClientHelloContents). x .comp .len) (made-of (clients.demand3 s b) e) in
         omega (arith, l, split .obey .1 .1 .1 .1 .0 .0)
 
-    pub id-len : optTold (c .«session_id») .len < 256
+    id-len : optTold (c .«session_id») .len < 256
     unfolding viewsOf
     id-len =
         let v = handedOf (client .grammar) (pieces client s c) .views .1 .1 .0 in
         short (c .«session_id») v
-        (ap (λ (x : TlsClientHelloContents). x .«session_id») (made (clients.demand3 s b) e))
+        (ap (λ (x : TlsClientHelloContents). x .«session_id») (made-of (clients.demand3 s b) e))
         (omega (arith, split .obey .1 .1 .0 .0))
 
-    pub ext-len : optTold (c .ext) .len < 65536
+    ext-len : optTold (c .ext) .len < 65536
     ext-len =
-        let m = ap (λ (x : TlsClientHelloContents). x .ext) (made (clients.demand3 s b) e) in
+        let m = ap (λ (x : TlsClientHelloContents). x .ext) (made-of (clients.demand3 s b) e) in
         rw m (block-small client refl (clients.demand3 s b) e)
+
+    pub client-fits : ClientFits c
+    client-fits = record { ciphers = ciphers-len; comp = comp-len; id = id-len; ext = ext-len }
 
   module _ (c : TlsServerHelloV13Draft18Contents) (e : reading draft18 s ≡ accepted c) where
     pub draft18-ext-len : optTold (c .ext) .len < 65536
     draft18-ext-len =
         let d = servers.demand3-draft18 s b in
-        let m = ap (λ (x : TlsServerHelloV13Draft18Contents). x .ext) (made d e) in
+        let m = ap (λ (x : TlsServerHelloV13Draft18Contents). x .ext) (made-of d e) in
         rw m (block-small draft18 refl d e)
 
   module _ (c : TlsHelloRetryRequestContents) (e : reading retry s ≡ accepted c) where
     pub retry-ext-len : optTold (c .ext) .len < 65536
     retry-ext-len =
         let d = others.splits-retry s b in
-        let m = ap (λ (x : TlsHelloRetryRequestContents). x .ext) (made d e) in
+        let m = ap (λ (x : TlsHelloRetryRequestContents). x .ext) (made-of d e) in
         rw m (block-small retry refl d e)
 
   -- a ServerHello is read by one form or the other
@@ -137,11 +132,11 @@ module _ (s : List ℕ) (b : Bytes s) where
         let d = servers.demand3 x s b in
         let v = handedOf (server x .grammar) (pieces (server x) s c) .views .1 .1 .0 in
         short (c .«session_id») v
-        (ap (λ (y : TlsServerHelloContents). y .«session_id») (made d e))
+        (ap (λ (y : TlsServerHelloContents). y .«session_id») (made-of d e))
         (omega (arith, d .splits c e .obey .1 .1 .0 .0))
 
     pub server-ext-len : optTold (c .ext) .len < 65536
     server-ext-len =
         let d = servers.demand3 x s b in
-        let m = ap (λ (y : TlsServerHelloContents). y .ext) (made d e) in
+        let m = ap (λ (y : TlsServerHelloContents). y .ext) (made-of d e) in
         rw m (block-small (server x) (server-block x) d e)

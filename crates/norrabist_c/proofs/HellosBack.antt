@@ -28,6 +28,7 @@ use Rattle.grammar.specs.Splits.{Pieces, AllObey, blockBytes, blockView, handed
 use Rattle.read_client.specs.Client.{client}
 use Rattle.read_client.specs.declared.TlsClientHelloContents.{TlsClientHelloContents}
 use Rattle.read_client.proofs.Whole as clients
+use Rattle.read_client.proofs.Strict.{strict-demand3}
 use Rattle.read_others.specs.Body.{retry}
 use Rattle.read_others.specs.declared.retry.TlsHelloRetryRequestContents.{TlsHelloRetryRequestContents}
 use Rattle.read_others.proofs.Whole as others
@@ -38,7 +39,8 @@ use Rattle.read_server.proofs.Whole as servers
 use Rattle.norrabist_c.specs.Parts.{optTold}
 use Rattle.norrabist_c.specs.Hellos.{clientTold, draft18Told, retryTold, serverMessageTold, serverTold}
 use Rattle.norrabist_c.specs.HellosBack.{HellosBack, clientFrom, draft18From, extFrom, retryFrom, serverFrom, serverMessageFrom, tailFrom}
-use Rattle.norrabist_c.proofs.HelloLengths.{made, which}
+use Rattle.grammar.proofs.Forms.{made-of}
+use Rattle.norrabist_c.proofs.HelloLengths.{which}
 
 -- a part that is absent where it is empty has the length that it would have
 same-len : (v : View) → optTold (absentIfEmpty v) .len ≡ v .len
@@ -188,7 +190,7 @@ retry-value s x o =
 pub of-pieces : {C : Type 0} {k : Form C} {s : List ℕ} {c : C} (P : C → Type 0) → BySplit k s → reading k s ≡ accepted c
     → ((x : Pieces (k .grammar)) → AllObey (k .grammar .rows) (x .parts)
     → P (valueOf k s (handedOf (k .grammar) x))) → P c
-of-pieces {C} {k} {s} {c} P d e h = rw (made d e) (h (pieces k s c) (d .splits c e .obey))
+of-pieces {C} {k} {s} {c} P d e h = rw (made-of d e) (h (pieces k s c) (d .splits c e .obey))
 
 module _ (s : List ℕ) (b : Bytes s) where
   client-back : (c : TlsClientHelloContents) → reading client s ≡ accepted c → c ≡ clientFrom (clientTold (accepted c))
@@ -253,6 +255,7 @@ pub hellos-back : (s : List ℕ) → Bytes s → HellosBack s
 hellos-back s b =
     record {
       clientHello = client-back s b;
+      strictHello = λ c e. client-back s b c (strict-demand3 s b .plainToo c e);
       serverHello = server-back s b;
       draft18Hello = draft18-back s b;
       retryRequest = retry-back s b;

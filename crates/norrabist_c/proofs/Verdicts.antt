@@ -1,9 +1,11 @@
 -- Why a reader refuses, by its number; and that a message's head is refused as the message is.
 -- Assumes nothing.
 use Prim.Native.Nat.{ℕ, _-_, _<_, _≤_}
-use mathlib.Core.Path.{_≡_, refl, _∙_}
+use mathlib.Core.Path.{_≡_, refl}
 use mathlib.Core.Bool.{false, _&&_}
 use mathlib.Core.List.{List}
+use mathlib.Core.Logic.{_⊎_, inl, inr}
+use mathlib.Core.Option.{none}
 use native.Mathlib.Omega.{arith}
 use borrow.Author.Tests.{le-leb, le-ltb, lt-leb, lt-ltb, ne-eqb}
 use lib.Dec.{eqb, leb, ltb}
@@ -15,7 +17,8 @@ use Rattle.envelope.specs.Opening.{metAt, opened}
 use Rattle.content_walk.specs.declared.TlsFound.{TlsFound}
 use Rattle.record_open.specs.Plaintext.{firstOf}
 use Rattle.record_walk.specs.Walks.{metHead}
-use Rattle.norrabist_c.specs.Readers.{answerOf, verdict}
+use Rattle.wire.specs.Parts.{lookup}
+use Rattle.norrabist_c.specs.Readers.{answerOf, otherReaders, verdict}
 
 -- what an answer is made into changes no verdict
 still : {A B : Type 0} (f : A → B) (a : Answer A) → verdict (giving f a) ≡ verdict a
@@ -37,42 +40,39 @@ walked s at = still-found _ (metAt s at)
 pub past : (a : Answer TlsFound) → verdict (giving (λ x. x .next) a) ≡ verdict a
 past a = still _ a
 
+-- a number below those of the other readers or above them is none of theirs
+not-other : (k n : ℕ) (s : List ℕ) → (k < 0x0100) ⊎ (0x0200 ≤ k) → lookup k (otherReaders n s) ≡ none
+not-other k n s h =
+    rw (
+      apart 0x0100 (omega arith) (omega arith),
+      apart 0x0101 (omega arith) (omega arith),
+      apart 0x0102 (omega arith) (omega arith),
+      apart 0x0103 (omega arith) (omega arith),
+      apart 0x0104 (omega arith) (omega arith),
+      apart 0x0105 (omega arith) (omega arith),
+      apart 0x0106 (omega arith) (omega arith),
+      apart 0x0107 (omega arith) (omega arith),
+      apart 0x0108 (omega arith) (omega arith),
+      apart 0x0109 (omega arith) (omega arith),
+      apart 0x010a (omega arith) (omega arith),
+    )
+  where
+    ends : (t : ℕ) → 0x0100 ≤ t → t < 0x0200 → (k < 0x0100) ⊎ (0x0200 ≤ k) → k ≡ t → ⊥
+    ends t a b (inl x) e = omega (arith, e)
+    ends t a b (inr x) e = omega (arith, e)
+
+    apart : (t : ℕ) → 0x0100 ≤ t → t < 0x0200 → eqb k t ≡ false
+    apart t a b = ne-eqb k t (ends t a b h)
+
 -- the number of a type is that of its reader
 pub by-type : (k n : ℕ) (s : List ℕ) → k < 256 → answerOf k n s ≡ verdict (opened k n s)
 unfolding answerOf
-by-type k n s h =
-    rw (
-      ne-eqb k 0x0100 (λ e. omega (arith, e)),
-      ne-eqb k 0x0101 (λ e. omega (arith, e)),
-      ne-eqb k 0x0102 (λ e. omega (arith, e)),
-      ne-eqb k 0x0103 (λ e. omega (arith, e)),
-      ne-eqb k 0x0104 (λ e. omega (arith, e)),
-      ne-eqb k 0x0105 (λ e. omega (arith, e)),
-      ne-eqb k 0x0106 (λ e. omega (arith, e)),
-      ne-eqb k 0x0107 (λ e. omega (arith, e)),
-      ne-eqb k 0x0108 (λ e. omega (arith, e)),
-      ne-eqb k 0x0109 (λ e. omega (arith, e)),
-      lt-leb 0x0200 k (omega arith),
-    )
+by-type k n s h = rw (not-other k n s (inl h), lt-leb 0x0200 k (omega arith))
 
 -- and from 0x0200 on that of the reader of a content
 pub by-content : (k n : ℕ) (s : List ℕ) → 0x0200 ≤ k → k < 0x0300 → answerOf k n s ≡ verdict (firstOf (k - 0x0200) 0 s)
 unfolding answerOf
-by-content k n s h l =
-    rw (
-      ne-eqb k 0x0100 (λ e. omega (arith, e)),
-      ne-eqb k 0x0101 (λ e. omega (arith, e)),
-      ne-eqb k 0x0102 (λ e. omega (arith, e)),
-      ne-eqb k 0x0103 (λ e. omega (arith, e)),
-      ne-eqb k 0x0104 (λ e. omega (arith, e)),
-      ne-eqb k 0x0105 (λ e. omega (arith, e)),
-      ne-eqb k 0x0106 (λ e. omega (arith, e)),
-      ne-eqb k 0x0107 (λ e. omega (arith, e)),
-      ne-eqb k 0x0108 (λ e. omega (arith, e)),
-      ne-eqb k 0x0109 (λ e. omega (arith, e)),
-      le-leb 0x0200 k h,
-      lt-ltb k 0x0300 l,
-    )
+by-content k n s h l = rw (not-other k n s (inr h), le-leb 0x0200 k h, lt-ltb k 0x0300 l)
 
 -- of which there are 256
 pub below-contents : (k : ℕ) → k < 0x0200 → (leb 0x0200 k && ltb k 0x0300) ≡ false

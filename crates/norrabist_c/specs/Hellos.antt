@@ -1,6 +1,6 @@
 -- What is told of a hello's body (RULES 1.7): its numbers and the lengths of its parts, or the
 -- table's number and nothing else.
-use Rattle.refusal.specs.{ℕ, true, false, Answer, accepted, refused, numberOf}
+use Rattle.refusal.specs.{ℕ, _<_, true, false, Answer, accepted, refused, numberOf}
 use Rattle.wire.specs.{ifSome}
 use Rattle.read_client.specs.{TlsClientHelloContents}
 use Rattle.read_others.specs.declared.retry.TlsHelloRetryRequestContents.{TlsHelloRetryRequestContents}
@@ -30,6 +30,14 @@ clientTold (refused r) =
       «has_ext» = false;
       number = numberOf (r .reason);
     }
+
+-- the lengths of a ClientHello fit the widths in which they are told, as those of every hello do
+-- that was read
+pub record ClientFits (c : TlsClientHelloContents) : Type 0 where
+  pub ciphers : c .ciphers .len < 65536
+  pub comp : c .comp .len < 256
+  pub id : optTold (c .«session_id») .len < 256
+  pub ext : optTold (c .ext) .len < 65536
 
 abbrev pub notTold : ServerHelloTold
 notTold = record { version = 0; cipher = 0; ext = 0; compression = 0; «session_id» = 0; «has_ext» = false; number = 0 }

@@ -7,7 +7,7 @@ use Rattle.grammar.specs.{reading, byVersion}
 use Rattle.grammar.specs.Forms.{absentIfEmpty}
 use Rattle.message.specs.{TlsMessageHandshake, ServerHello, ServerHelloV13Draft18}
 use Rattle.open_hellos.specs.HelloMessages.{serverMessage}
-use Rattle.read_client.specs.{client, TlsClientHelloContents}
+use Rattle.read_client.specs.{client, strictClient, TlsClientHelloContents}
 use Rattle.read_others.specs.Body.{retry}
 use Rattle.read_others.specs.declared.retry.TlsHelloRetryRequestContents.{TlsHelloRetryRequestContents}
 use Rattle.read_server.specs.{serverVersions, draft18, TlsServerHelloContents, TlsServerHelloV13Draft18Contents}
@@ -60,6 +60,8 @@ serverMessageFrom t = pick (eqb (t .version) tls13Draft18) (ServerHelloV13Draft1
 
 pub record HellosBack (s : List ℕ) : Type 0 where
   pub clientHello : (c : TlsClientHelloContents) → reading client s ≡ accepted c
+      → c ≡ clientFrom (clientTold (accepted c))
+  pub strictHello : (c : TlsClientHelloContents) → strictClient s ≡ accepted c
       → c ≡ clientFrom (clientTold (accepted c))
   pub serverHello : (c : TlsServerHelloContents) → byVersion serverVersions s ≡ accepted c
       → c ≡ serverFrom (serverTold (accepted c))

@@ -2,14 +2,15 @@
 // before it (`specs/Back.antt`).
 ghost use mathlib.Core.Path.{_≡_};
 ghost use Rattle.grammar.specs.Forms.{byVersion, reading};
-ghost use Rattle.norrabist_c.specs.Hellos.{clientTold, draft18Told, retryTold, serverMessageTold, serverTold};
+ghost use Rattle.norrabist_c.specs.Hellos.{ClientFits, clientTold, draft18Told, retryTold, serverMessageTold, serverTold};
 ghost use Rattle.open_hellos.specs.HelloMessages.{serverMessage};
-ghost use Rattle.read_client.specs.Client.{client};
+ghost use Rattle.read_client.specs.Client.{client, strictClient};
 ghost use Rattle.read_others.specs.Body.{retry};
 ghost use Rattle.read_server.specs.Server.{draft18, server, serverVersions};
-ghost use Rattle.refusal.specs.Answers.{refused};
+ghost use Rattle.refusal.specs.Answers.{accepted, refused};
 use crate::parts::opt_told;
 use read_client::ClientHelloAnswer;
+use read_client::TlsClientHelloContents;
 use read_others::retry::HelloRetryRequestAnswer;
 use read_server::tlsv12::ServerHelloAnswer;
 use read_server::tlsv13draft18::Draft18Answer;
@@ -31,36 +32,59 @@ pub struct ClientHelloTold {
     pub number: u8,
 }
 
+fn client_refused(r: Refusal) -> ClientHelloTold
+    ensures { λ x. ⌜ x ≡ clientTold (refused r) ⌝ }
+{
+    ClientHelloTold {
+        version: 0,
+        ciphers: 0,
+        ext: 0,
+        comp: 0,
+        session_id: 0,
+        has_ext: false,
+        number: refusal::refusal_number(r),
+    }
+}
+
+// What is told of a ClientHello whose lengths fit, as those of every one that was read do.
+fn client_told(c: TlsClientHelloContents) -> ClientHelloTold
+    requires { ⌜ ClientFits c ⌝ }
+    ensures { λ r. ⌜ r ≡ clientTold (accepted c) ⌝ }
+{
+    let id_view = c.session_id;
+    let ext_view = c.ext;
+    let id = opt_told(id_view);
+    let ext = opt_told(ext_view);
+    ClientHelloTold {
+        version: c.version,
+        ciphers: c.ciphers.len as u16,
+        ext: ext.len as u16,
+        comp: c.comp.len as u8,
+        session_id: id.len as u8,
+        has_ext: ext.present,
+        number: 0,
+    }
+}
+
 // Reads the body of a ClientHello.
 #[no_mangle]
 pub extern "C" fn norrabist_parse_tls_handshake_client_hello(i: &[u8]) -> ClientHelloTold
     ensures { λ r. ⌜ r ≡ clientTold (reading client (now (i .entry))) ⌝ }
 {
     match read_client::parse_tls_handshake_client_hello(i) {
-        ClientHelloAnswer::Refused(r) => ClientHelloTold {
-            version: 0,
-            ciphers: 0,
-            ext: 0,
-            comp: 0,
-            session_id: 0,
-            has_ext: false,
-            number: refusal::refusal_number(r),
-        },
-        ClientHelloAnswer::Got(c) => {
-            let id_view = c.session_id;
-            let ext_view = c.ext;
-            let id = opt_told(id_view);
-            let ext = opt_told(ext_view);
-            ClientHelloTold {
-                version: c.version,
-                ciphers: c.ciphers.len as u16,
-                ext: ext.len as u16,
-                comp: c.comp.len as u8,
-                session_id: id.len as u8,
-                has_ext: ext.present,
-                number: 0,
-            }
-        }
+        ClientHelloAnswer::Refused(r) => client_refused(r),
+        ClientHelloAnswer::Got(c) => client_told(c),
+    }
+}
+
+// Reads the body of a ClientHello that matches exactly.
+#[no_mangle]
+pub extern "C" fn norrabist_parse_tls_handshake_client_hello_strict(i: &[u8]) -> ClientHelloTold
+    ensures { λ r. ⌜ r ≡ clientTold (strictClient (now (i .entry))) ⌝ }
+{
+    match read_client::parse_tls_handshake_client_hello_strict(i) {
+        ClientHelloAnswer::Refused(why) => client_refused(why),
+        ClientHelloAnswer::Got(exact) => client_told(exact),
     }
 }
 

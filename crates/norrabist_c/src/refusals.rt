@@ -5,6 +5,7 @@ ghost use Rattle.envelope.specs.Opening.{metAt, opened};
 ghost use Rattle.grammar.specs.Forms.{byVersion, reading};
 ghost use Rattle.list.specs.Items.{orNoSuch};
 ghost use Rattle.norrabist_c.specs.Readers.{answerOf, refusalTold, verdict};
+ghost use Rattle.read_client.specs.Client.{strictClient};
 ghost use Rattle.read_server.specs.Server.{serverVersions};
 ghost use Rattle.record.specs.Records.{header, raw};
 ghost use Rattle.content.specs.Contents.{alertAt, cipherSpecAt, heartbeatIn};
@@ -16,6 +17,7 @@ use content::HeartbeatAnswer;
 use content_walk::PastAnswer;
 use envelope::HeadAnswer;
 use message::handshake::MessageAnswer;
+use read_client::ClientHelloAnswer;
 use read_server::tlsv12::ServerHelloAnswer;
 use record::RawRecordAnswer;
 use record::RecordHeaderAnswer;
@@ -130,6 +132,15 @@ fn of_heartbeat(i: &[u8], n: usize) -> RefusalTold
     }
 }
 
+fn of_client_strict(i: &[u8]) -> RefusalTold
+    ensures { λ r. ⌜ r ≡ refusalTold (verdict (strictClient (now (i .entry)))) ⌝ }
+{
+    match read_client::parse_tls_handshake_client_hello_strict(i) {
+        ClientHelloAnswer::Refused(r) => carried(r),
+        ClientHelloAnswer::Got(_) => RefusalTold { number: 0 },
+    }
+}
+
 fn of_content(record_type: u8, i: &[u8]) -> RefusalTold
     ensures { λ r. ⌜ r ≡ refusalTold (verdict (firstOf «record_type» 0 (now (i .entry)))) ⌝ }
 {
@@ -167,6 +178,7 @@ pub extern "C" fn norrabist_refusal(reader: u16, i: &[u8], n: usize) -> RefusalT
         0x0107 => of_cipher_spec(i),
         0x0108 => of_alert(i),
         0x0109 => of_heartbeat(i, n),
+        0x010a => of_client_strict(i),
         0x0200..=0x02ff => of_content((reader - 0x0200) as u8, i),
         0x0000..=0x00ff => of_body(reader as u8, i, n),
         _ => carried(refusal::unplaced(Reason::Switch)),

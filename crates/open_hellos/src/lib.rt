@@ -1,7 +1,7 @@
 // The bodies of hellos and of what asks for one, opened as messages.
 ghost use mathlib.Core.Path.{_≡_};
 ghost use Rattle.read_others.specs.Body.{retry};
-ghost use Rattle.read_client.specs.Client.{client};
+ghost use Rattle.read_client.specs.Client.{client, strictClient};
 ghost use Rattle.grammar.specs.Forms.{reading};
 ghost use Rattle.open_hellos.specs.HelloMessages.{serverMessage};
 ghost use Rattle.message.specs.Messages.{messageSays};
@@ -30,6 +30,18 @@ pub fn parse_tls_handshake_msg_client_hello(i: &[u8]) -> MessageAnswer
     match read_client::parse_tls_handshake_client_hello(i) {
         ClientHelloAnswer::Refused(r) => MessageAnswer::Refused(r),
         ClientHelloAnswer::Got(c) => MessageAnswer::Got(TlsMessageHandshake::ClientHello(c)),
+    }
+}
+
+// Opens a body as a ClientHello that matches exactly, with the refusals of the strict reader.
+pub fn parse_tls_handshake_msg_client_hello_strict(i: &[u8]) -> MessageAnswer
+    ensures { λ r. ⌜ messageSays r ≡ giving (λ c. ClientHello c) (strictClient (now (i .entry))) ⌝ }
+{
+    match read_client::parse_tls_handshake_client_hello_strict(i) {
+        ClientHelloAnswer::Refused(why) => MessageAnswer::Refused(why),
+        ClientHelloAnswer::Got(exact) => {
+            MessageAnswer::Got(TlsMessageHandshake::ClientHello(exact))
+        }
     }
 }
 

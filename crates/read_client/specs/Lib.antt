@@ -1,3 +1,3 @@
 pub mod Client
-pub use Client.{client, clientSays}
+pub use Client.{client, clientSays, strictClient, TellsExactness}
 pub use declared.TlsClientHelloContents.{TlsClientHelloContents}

@@ -1,15 +1,22 @@
-// The ClientHello (RULES 3.2), and what tls-parser's trait of that name hands out of it.
+// The ClientHello (RULES 3.2), the strict one (RULES 3.14), and what tls-parser's trait of that
+// name hands out of it.
 ghost use mathlib.Core.Path.{_≡_};
 ghost use lib.ListN.{drop, length};
 ghost use Rattle.field.specs.Fields.{Field};
 ghost use Rattle.grammar.specs.Demand3.{BySplit};
 ghost use Rattle.grammar.specs.Forms.{reading};
-ghost use Rattle.read_client.specs.Client.{client, clientSays, gmtUnixTime, randTime};
+ghost use Rattle.grammar.specs.Hellos.{clientToFill};
+ghost use Rattle.grammar.specs.Strict.{ByExactSplit};
+ghost use Rattle.read_client.specs.Client.{client, clientSays, exactness, gmtUnixTime, randTime, strictClient};
 ghost use Rattle.list.specs.Items.{items, numberPlace};
+ghost use Rattle.refusal.specs.Answers.{refused};
+ghost use Rattle.refusal.specs.Refusals.{refusal};
+ghost use Rattle.refusal.specs.declared.Reason.the-variants.{LengthValue};
 ghost use Rattle.wire.specs.Numbers.{numberSays};
 ghost use Rattle.wire.specs.Parts.{optPartOf, partOf};
 use field::RuleName;
 use read_start::StartAnswer;
+use refusal::Reason;
 use refusal::Refusal;
 use wire::number::NumberAnswer;
 use wire::number::Width;
@@ -32,6 +39,14 @@ pub struct TlsClientHelloContents {
 pub enum ClientHelloAnswer {
     Refused(Refusal),
     Got(TlsClientHelloContents),
+}
+
+// Whether a ClientHello is exact (RULES 3.14), or the first of the three that keeps it from that.
+pub enum Exactness {
+    Exact,
+    NoCiphers,
+    NoMethods,
+    HasTail,
 }
 
 // Reads a ClientHello's body field by field, and its extensions where they fit.
@@ -72,6 +87,33 @@ pub fn parse_tls_handshake_client_hello(i: &[u8]) -> ClientHelloAnswer
         ext: block,
         tail: ext.next,
     })
+}
+
+// The refusal of a hello that does not match exactly: LengthValue at a place.
+fn inexact(at: usize) -> ClientHelloAnswer
+    ensures { λ r. ⌜ clientSays r ≡ refused (refusal LengthValue at 0) ⌝ }
+{
+    ClientHelloAnswer::Refused(refusal::refuse(Reason::LengthValue, at, 0))
+}
+
+// Reads a ClientHello's body as `parse_tls_handshake_client_hello` does, and takes it where it
+// matches RFC 5246 7.4.1.2 exactly: no empty list of ciphers or methods, and no byte behind it.
+pub fn parse_tls_handshake_client_hello_strict(i: &[u8]) -> ClientHelloAnswer
+    ensures { λ r. ⌜ clientSays r ≡ strictClient (now (i .entry)) ⌝ }
+    ensures { λ _. ⌜ ByExactSplit client clientToFill (now (i .entry)) ⌝ }
+{
+    let c = match parse_tls_handshake_client_hello(i) {
+        ClientHelloAnswer::Refused(r) => {
+            return ClientHelloAnswer::Refused(r);
+        }
+        ClientHelloAnswer::Got(c) => c,
+    };
+    match c.exactness(i) {
+        Exactness::Exact => ClientHelloAnswer::Got(c),
+        Exactness::NoCiphers => inexact(c.ciphers.start - 2),
+        Exactness::NoMethods => inexact(c.comp.start - 1),
+        Exactness::HasTail => inexact(c.tail),
+    }
 }
 
 // Each accessor takes the bytes that the hello was read from. A view outside the bytes lent is the
@@ -162,5 +204,22 @@ impl TlsClientHelloContents {
     {
         let ext = self.ext;
         wire::view::opt_part_of(body, ext)
+    }
+
+    // Tells whether the hello is exact, or the first of the three that keeps it from that; of one
+    // that was read, the strict reader goes by it.
+    pub fn exactness(self, body: &[u8]) -> Exactness
+        ensures { λ r. ⌜ r ≡ exactness (now (body .entry)) self ⌝ }
+    {
+        if wire::view::part_of(body, self.ciphers).len() == 0 {
+            return Exactness::NoCiphers;
+        }
+        if wire::view::part_of(body, self.comp).len() == 0 {
+            return Exactness::NoMethods;
+        }
+        if self.tail < body.len() {
+            return Exactness::HasTail;
+        }
+        Exactness::Exact
     }
 }

@@ -10,6 +10,7 @@ use Rattle.list.proofs.Fields.{none-more}
 use Rattle.list.proofs.Listed.{by-items}
 use Rattle.read_start.proofs.Begun.{one-start}
 use Rattle.read_client.proofs.Whole as client
+use Rattle.read_client.proofs.Strict as strict
 use Rattle.read_server.proofs.Whole as server
 use Rattle.read_certs.proofs.Whole as certs
 use Rattle.cert_reader.proofs.Same.{every-reader}
@@ -76,8 +77,11 @@ returns c = record {
   readsDraft18 = server.demand3-draft18;
   readsByVersion = server.demand3-by-version;
   readsAsMessage = hellos.demand3;
+  readsStrict = strict.strict-demand3;
+  tellsStrict = strict.tells-exactness;
   everyText = every-text;
   writesClient = back.writes-client;
+  writesStrict = back.writes-strict;
   writesServer = back.writes-server;
   writesDraft18 = back.writes-draft18;
   writesByVersion = back.writes-by-version;

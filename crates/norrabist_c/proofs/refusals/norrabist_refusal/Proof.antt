@@ -42,6 +42,9 @@ of-alert-requires c κs = search needs
 of-heartbeat-requires : tie.Need-of-heartbeat-requires
 of-heartbeat-requires c κs = search needs
 
+of-client-strict-requires : tie.Need-of-client-strict-requires
+of-client-strict-requires c κs = search needs
+
 cast-of-body : tie.Need-cast-of-body
 cast-of-body c = search needs
 
@@ -101,15 +104,19 @@ unfolding answerOf
 returns-10 c = rw (c .before .match .keys10) (c .of-heartbeat .ensures)
 
 returns-11 : tie.Need-returns-11
-returns-11 c = rw (by-type _ _ _ (c .before .if1 .taken)) (c .of-body .ensures)
+unfolding answerOf
+returns-11 c = rw (c .before .match .keys11) (c .of-client-strict .ensures)
 
 returns-12 : tie.Need-returns-12
-returns-12 c =
-    rw (by-content _ _ _ (c .before .before .if2 .left) (c .before .if3 .taken)) (c .of-content .ensures)
+returns-12 c = rw (by-type _ _ _ (c .before .if1 .taken)) (c .of-body .ensures)
 
 returns-13 : tie.Need-returns-13
-unfolding answerOf
 returns-13 c =
+    rw (by-content _ _ _ (c .before .before .if2 .left) (c .before .if3 .taken)) (c .of-content .ensures)
+
+returns-14 : tie.Need-returns-14
+unfolding answerOf
+returns-14 c =
     let i = c .before .before in
     let g = i .before .before in
     let k = g .before .before .args .reader in
@@ -117,16 +124,17 @@ returns-13 c =
     let d : (leb 0x0200 k && ltb k 0x0300) ≡ false =
     ⊎-elim (λ w. below-contents k (w .taken)) (λ w. above-contents k (w .1 .left)) (i .if2 .came) in
     rw (
-      ne-eqb k 0x0100 (m .0 .0 .0 .0 .0 .0 .0 .0 .0 .1),
-      ne-eqb k 0x0101 (m .0 .0 .0 .0 .0 .0 .0 .0 .1),
-      ne-eqb k 0x0102 (m .0 .0 .0 .0 .0 .0 .0 .1),
-      ne-eqb k 0x0103 (m .0 .0 .0 .0 .0 .0 .1),
-      ne-eqb k 0x0104 (m .0 .0 .0 .0 .0 .1),
-      ne-eqb k 0x0105 (m .0 .0 .0 .0 .1),
-      ne-eqb k 0x0106 (m .0 .0 .0 .1),
-      ne-eqb k 0x0107 (m .0 .0 .1),
-      ne-eqb k 0x0108 (m .0 .1),
-      ne-eqb k 0x0109 (m .1),
+      ne-eqb k 0x0100 (m .0 .0 .0 .0 .0 .0 .0 .0 .0 .0 .1),
+      ne-eqb k 0x0101 (m .0 .0 .0 .0 .0 .0 .0 .0 .0 .1),
+      ne-eqb k 0x0102 (m .0 .0 .0 .0 .0 .0 .0 .0 .1),
+      ne-eqb k 0x0103 (m .0 .0 .0 .0 .0 .0 .0 .1),
+      ne-eqb k 0x0104 (m .0 .0 .0 .0 .0 .0 .1),
+      ne-eqb k 0x0105 (m .0 .0 .0 .0 .0 .1),
+      ne-eqb k 0x0106 (m .0 .0 .0 .0 .1),
+      ne-eqb k 0x0107 (m .0 .0 .0 .1),
+      ne-eqb k 0x0108 (m .0 .0 .1),
+      ne-eqb k 0x0109 (m .0 .1),
+      ne-eqb k 0x010a (m .1),
       d,
       unlisted k _ _ (i .before .if1 .left),
       ← (c .before .unplaced .ensures),
@@ -147,6 +155,7 @@ norrabist-refusal-spec =
     of-cipher-spec-requires
     of-alert-requires
     of-heartbeat-requires
+    of-client-strict-requires
     cast-of-body
     of-body-requires
     cast-of-content
@@ -165,4 +174,5 @@ norrabist-refusal-spec =
     returns-10
     returns-11
     returns-12
-    returns-13)
+    returns-13
+    returns-14)
