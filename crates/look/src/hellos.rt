@@ -8,6 +8,7 @@ use crate::say::kind;
 use crate::say::part;
 use crate::say::text;
 use list::numbers::number_count;
+use read_client::Exactness;
 use read_client::TlsClientHelloContents;
 use read_others::retry::TlsHelloRetryRequestContents;
 use read_server::tlsv12::TlsServerHelloContents;
@@ -91,6 +92,17 @@ fn extensions(ext: OptView, tail: usize, body: &[u8], from: usize) {
     }
 }
 
+// Whether the strict reader takes the ClientHello (RULES 3.14), and if not, the first of its three
+// reasons.
+fn strict(e: Exactness) {
+    match e {
+        Exactness::Exact => text(b"    strict: taken\n"),
+        Exactness::NoCiphers => text(b"    strict: refused, no ciphers\n"),
+        Exactness::NoMethods => text(b"    strict: refused, no compression methods\n"),
+        Exactness::HasTail => text(b"    strict: refused, a tail follows\n"),
+    }
+}
+
 pub(crate) fn client(c: TlsClientHelloContents, body: &[u8], from: usize) {
     let random = c.random;
     let id = c.session_id;
@@ -104,6 +116,7 @@ pub(crate) fn client(c: TlsClientHelloContents, body: &[u8], from: usize) {
     ciphers(cipher_list, body, from);
     methods(method_list, body, from);
     extensions(ext, c.tail, body, from);
+    strict(c.exactness(body));
 }
 
 fn server_extensions(c: TlsServerHelloContents, body: &[u8], from: usize) {
