@@ -62,7 +62,8 @@ enum norrabist_reason {
     /* session id length over MAX_ID_LEN; ticket body under TICKET_AT bytes */
     NORRABIST_VERIFY = 3,
     /* cipher length odd or past the end; method length past the end; ChangeCipherSpec not 1; alert
-       level or heartbeat type not 1 or 2; payload that leaves under MIN_PADDING_LEN bytes */
+       level or heartbeat type not 1 or 2; payload that leaves under MIN_PADDING_LEN bytes; a hello
+       read strictly with no ciphers, no methods or a tail */
     NORRABIST_LENGTH_VALUE = 4,
     /* ServerHello version not listed */
     NORRABIST_TAG = 5,
@@ -192,6 +193,8 @@ enum norrabist_reader {
     NORRABIST_READER_ALERT = 0x0108,
     /* norrabist_parse_tls_message_heartbeat */
     NORRABIST_READER_HEARTBEAT = 0x0109,
+    /* norrabist_parse_tls_handshake_client_hello_strict */
+    NORRABIST_READER_CLIENT_HELLO_STRICT = 0x010a,
     /* plus the type of a record: its content with the first message, body included */
     NORRABIST_READER_CONTENT = 0x0200
 };
@@ -490,6 +493,15 @@ static inline size_t norrabist_client_hello_tail(norrabist_client_hello_told tol
 /* The body of a ClientHello.
    Refuses: INCOMPLETE, VERIFY, LENGTH_VALUE. */
 norrabist_client_hello_told norrabist_parse_tls_handshake_client_hello(
+    const uint8_t *i, size_t i_len);
+
+/* The body of a ClientHello that matches RFC 5246 7.4.1.2 exactly: it has ciphers and methods, and
+   nothing follows it. What it takes, the plain reader above takes too, and tells the same of it.
+   Refuses: INCOMPLETE, VERIFY, LENGTH_VALUE, as that one does; then LENGTH_VALUE of a body that
+   that one takes, where it has no ciphers, no methods or a byte behind it, in this order. Which of
+   the three it is the plain reader tells: `ciphers` is 0, `comp` is 0, or
+   norrabist_client_hello_tail is under `i_len`. */
+norrabist_client_hello_told norrabist_parse_tls_handshake_client_hello_strict(
     const uint8_t *i, size_t i_len);
 
 /* A ServerHello's body: version, cipher, the length of the extensions, compression, and the length

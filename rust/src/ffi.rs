@@ -24,6 +24,7 @@ extern "C" {
     fn norrabist_parse_tls_message_alert(i: *const u8, i_len: usize) -> AlertTold;
     fn norrabist_parse_tls_message_heartbeat(i: *const u8, i_len: usize, len: u16) -> HeartbeatTold;
     fn norrabist_parse_tls_handshake_client_hello(i: *const u8, i_len: usize) -> ClientHelloTold;
+    fn norrabist_parse_tls_handshake_client_hello_strict(i: *const u8, i_len: usize) -> ClientHelloTold;
     fn norrabist_parse_tls_handshake_server_hello(i: *const u8, i_len: usize) -> ServerHelloTold;
     fn norrabist_parse_tls_handshake_msg_server_hello(i: *const u8, i_len: usize) -> ServerHelloTold;
     fn norrabist_parse_tls_handshake_msg_hello_retry_request(i: *const u8, i_len: usize) -> HelloRetryRequestTold;
@@ -102,6 +103,9 @@ safe! {
     heartbeat(i: bytes, len: u16) -> HeartbeatTold = norrabist_parse_tls_message_heartbeat;
     /// The body of a ClientHello.
     client_hello(i: bytes) -> ClientHelloTold = norrabist_parse_tls_handshake_client_hello;
+    /// The body of a ClientHello that matches exactly.
+    client_hello_strict(i: bytes) -> ClientHelloTold
+        = norrabist_parse_tls_handshake_client_hello_strict;
     /// The body of a ServerHello, but not of draft 18.
     server_hello(i: bytes) -> ServerHelloTold = norrabist_parse_tls_handshake_server_hello;
     /// The body of a ServerHello, that of draft 18 too.

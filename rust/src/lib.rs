@@ -8,7 +8,8 @@
 //! A reader gives the rest of the bytes and the value ([`Read`]). Where tls-parser has a `Vec`
 //! there is a [`List`], of messages [`TlsMessages`] and of records [`TlsRecords`]. A hello also has
 //! a `tail`, what follows it: where its extensions are absent, the tail may be a block that was cut
-//! off.
+//! off. Where a ClientHello has to match RFC 5246 exactly, with nothing behind it,
+//! [`parse_tls_handshake_client_hello_strict`] reads it.
 //!
 //! ```
 //! use norrabist::{parse_tls_plaintext, TlsMessage, TlsMessageHandshake, TlsVersion};

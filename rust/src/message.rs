@@ -42,6 +42,16 @@ macro_rules! read {
     }};
 }
 
+/// The number of a message's reader: the one that is given, or the type of the kind.
+macro_rules! number {
+    ($kind:ident) => {
+        TlsHandshakeType::$kind.0.into()
+    };
+    ($kind:ident $reader:expr) => {
+        $reader
+    };
+}
+
 /// Readers of bodies, given the bytes alone: of the contents, and of the message that they are.
 macro_rules! bodies {
     (
@@ -51,7 +61,7 @@ macro_rules! bodies {
         )* }
         messages { $(
             $(#[$message_doc:meta])*
-            $message_name:ident = $kind:ident of $message_read:ident;
+            $message_name:ident = $kind:ident of $message_read:ident $(by $message_reader:expr)?;
         )* }
     ) => {
         $(
@@ -65,7 +75,7 @@ macro_rules! bodies {
             $(#[$message_doc])*
             #[inline]
             pub fn $message_name(i: &[u8]) -> Read<'_, TlsMessageHandshake<'_>> {
-                let (left, value) = read!($message_read of i, by TlsHandshakeType::$kind.0.into())?;
+                let (left, value) = read!($message_read of i, by number!($kind $($message_reader)?))?;
                 Ok((left, TlsMessageHandshake::$kind(value)))
             }
         )*
@@ -81,6 +91,39 @@ bodies! {
         /// `Incomplete`, `Verify`, `LengthValue`.
         parse_tls_handshake_client_hello -> TlsClientHelloContents
             = client_hello by TlsHandshakeType::ClientHello.0.into();
+        /// Reads the body of a ClientHello that matches RFC 5246 7.4.1.2 exactly (RULES 3.14): it
+        /// offers a cipher and a method, and nothing follows it. tls-parser has no such function.
+        ///
+        /// What it takes, [`parse_tls_handshake_client_hello`] takes too, with the same value,
+        /// whose `tail` is empty.
+        ///
+        /// # Errors
+        ///
+        /// `Incomplete`, `Verify`, `LengthValue`, as the plain reader has them; then `LengthValue`,
+        /// where there are no ciphers, no methods or a tail. Which of the three is the first is
+        /// what [`exactness`](TlsClientHelloContents::exactness) says of the plain reader's value.
+        ///
+        /// ```
+        /// use norrabist::{parse_tls_handshake_client_hello, Exactness, Reason};
+        /// use norrabist::parse_tls_handshake_client_hello_strict;
+        ///
+        /// // a hello that offers a cipher and a method, and half a length of extensions behind it
+        /// let mut body = vec![0x03, 0x03];
+        /// body.extend([7; 32]);
+        /// body.extend([0, 0, 2, 0xc0, 0x2f, 1, 0, 0]);
+        ///
+        /// let refused = parse_tls_handshake_client_hello_strict(&body);
+        /// assert!(refused.is_err_and(|refusal| refusal.reason == Reason::LengthValue));
+        /// let (_, hello) = parse_tls_handshake_client_hello(&body)?;
+        /// assert_eq!(hello.exactness(), Exactness::HasTail);
+        ///
+        /// body.pop();
+        /// let (rest, hello) = parse_tls_handshake_client_hello_strict(&body)?;
+        /// assert!(rest.is_empty() && hello.exactness() == Exactness::Exact);
+        /// # Ok::<(), norrabist::Refusal>(())
+        /// ```
+        parse_tls_handshake_client_hello_strict -> TlsClientHelloContents
+            = client_hello_strict by reader::CLIENT_HELLO_STRICT;
         /// Reads the body of a ServerHello, but not of draft 18.
         ///
         /// # Errors
@@ -117,6 +160,14 @@ bodies! {
         ///
         /// `Incomplete`, `Verify`, `LengthValue`.
         parse_tls_handshake_msg_client_hello = ClientHello of client_hello;
+        /// Reads the body of a ClientHello that matches exactly, as
+        /// [`parse_tls_handshake_client_hello_strict`] does.
+        ///
+        /// # Errors
+        ///
+        /// `Incomplete`, `Verify`, `LengthValue`.
+        parse_tls_handshake_msg_client_hello_strict
+            = ClientHello of client_hello_strict by reader::CLIENT_HELLO_STRICT;
         /// Reads the body of a HelloRetryRequest.
         ///
         /// # Errors

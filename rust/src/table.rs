@@ -62,6 +62,8 @@ pub(crate) mod reader {
     pub const ALERT: u16 = 0x0108;
     /// A heartbeat of a length.
     pub const HEARTBEAT: u16 = 0x0109;
+    /// The body of a ClientHello that matches exactly.
+    pub const CLIENT_HELLO_STRICT: u16 = 0x010a;
 
     /// The content of a record of that type.
     pub const fn content(record_type: u8) -> u16 {

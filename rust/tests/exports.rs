@@ -89,6 +89,22 @@ fn the_header_has_the_numbers_of_the_binding() {
     assert!(numbers(&header()).contains(&("MAX_RECORD_LEN", MAX_RECORD_LEN.into())));
 }
 
+/// The readers that tell why they refuse, by their numbers: those of the binding are the header's,
+/// which has the one of a content by its type besides.
+#[test]
+fn the_header_has_the_readers_of_the_binding() {
+    let header = header();
+    let of_header = numbers(&header).into_iter();
+    let of_header = of_header.filter_map(|(name, n)| Some((name.strip_prefix("READER_")?, n)));
+    let table = text(&Path::new(HERE).join("src/table.rs"));
+    let (_, readers) = table.split_once("mod reader {").expect("the readers");
+    let (readers, _) = readers.split_once("\n}").expect("their end");
+    let constants = readers.lines().filter_map(|line| line.trim().strip_prefix("pub const "));
+    let rows = constants.filter_map(|row| row.strip_suffix(';')?.split_once(": u16 = 0x"));
+    let rows = rows.map(|(name, hex)| (name, u32::from_str_radix(hex, 16).expect("hex")));
+    assert!(of_header.eq(rows.chain([("CONTENT", 0x0200)])));
+}
+
 #[test]
 fn the_binding_declares_the_exports() {
     let exports = rattle::exports().into_iter();

@@ -197,6 +197,56 @@ static void client_hello(void) {
     HOLDS(norrabist_parse_tls_handshake_client_hello(body, 42).number == NORRABIST_LENGTH_VALUE);
 }
 
+/* The plain reader takes a body, and the strict one refuses it, with LENGTH_VALUE and nothing else
+   told. What the plain one tells. */
+static norrabist_client_hello_told inexact(const uint8_t *body, size_t len) {
+    norrabist_client_hello_told plain = norrabist_parse_tls_handshake_client_hello(body, len);
+    norrabist_client_hello_told strict =
+        norrabist_parse_tls_handshake_client_hello_strict(body, len);
+
+    HOLDS(plain.number == NORRABIST_ACCEPTED && strict.number == NORRABIST_LENGTH_VALUE);
+    HOLDS(strict.version == 0 && strict.ciphers == 0 && strict.comp == 0);
+    HOLDS(strict.session_id == 0 && !strict.has_ext && strict.ext == 0);
+    HOLDS(norrabist_refusal(NORRABIST_READER_CLIENT_HELLO_STRICT, body, len, 0).number ==
+          NORRABIST_LENGTH_VALUE);
+    return plain;
+}
+
+static void client_hello_strict(void) {
+    const uint8_t *body = FLIGHT + NORRABIST_FIRST_BODY_AT;
+    uint8_t whole[51], bare[44];
+    norrabist_client_hello_told told = norrabist_parse_tls_handshake_client_hello_strict(body, 46);
+
+    HOLDS(told.number == NORRABIST_ACCEPTED && told.version == NORRABIST_TLS12);
+    HOLDS(told.session_id == 2 && told.ciphers == 4 && told.comp == 2 && !told.has_ext);
+    HOLDS(norrabist_client_hello_tail(told) == 46);
+    HOLDS(norrabist_refusal(NORRABIST_READER_CLIENT_HELLO_STRICT, body, 46, 0).number ==
+          NORRABIST_ACCEPTED);
+    /* a tail: a block that is cut off, then a byte behind a whole one */
+    HOLDS(norrabist_client_hello_tail(inexact(body, 48)) == 46);
+    memcpy(whole, body, 46);
+    memcpy(whole + 46, "\0\2\5\6\7", 5);
+    told = norrabist_parse_tls_handshake_client_hello_strict(whole, 50);
+    HOLDS(told.number == NORRABIST_ACCEPTED && told.has_ext && told.ext == 2);
+    HOLDS(norrabist_client_hello_tail(inexact(whole, 51)) == 50);
+    HOLDS(norrabist_client_hello_tail(inexact(whole, 49)) == 46);
+    /* no methods; no ciphers */
+    memcpy(bare, body, 44);
+    bare[43] = 0;
+    told = inexact(bare, 44);
+    HOLDS(told.ciphers == 4 && told.comp == 0 && norrabist_client_hello_tail(told) == 44);
+    memcpy(bare + 37, "\0\0\1\0", 4);
+    told = inexact(bare, 41);
+    HOLDS(told.ciphers == 0 && told.comp == 1 && norrabist_client_hello_tail(told) == 41);
+    /* what the plain reader refuses is refused the same way */
+    HOLDS(norrabist_parse_tls_handshake_client_hello_strict(bare, 39).number ==
+          NORRABIST_INCOMPLETE);
+    HOLDS(norrabist_parse_tls_handshake_client_hello_strict(body, 42).number ==
+          NORRABIST_LENGTH_VALUE);
+    bare[34] = NORRABIST_MAX_ID_LEN + 1;
+    HOLDS(norrabist_parse_tls_handshake_client_hello_strict(bare, 41).number == NORRABIST_VERIFY);
+}
+
 static void server_hello(void) {
     static const uint8_t body[] = {3, 3, RANDOM, 1, 0xaa, 0xc0, 0x2c, 7, 0, 1, 0xee, 0xdd};
     static const uint8_t draft18[] = {0x7f, 0x12, RANDOM, 0x13, 0x01, 0, 1, 0xee, 0xdd};
@@ -299,6 +349,7 @@ static void refusals(void) {
     const uint8_t *content = FLIGHT + NORRABIST_RECORD_HEADER_LEN;
     const size_t len = sizeof FLIGHT - NORRABIST_RECORD_HEADER_LEN;
     static const uint8_t tag[] = {3, 4};
+    uint16_t reader;
 
     HOLDS(norrabist_refusal(NORRABIST_CLIENT_HELLO, tag, 2, 2).number == NORRABIST_INCOMPLETE);
     HOLDS(norrabist_refusal(NORRABIST_NEW_SESSION_TICKET, tag, 2, 2).number == NORRABIST_VERIFY);
@@ -330,7 +381,12 @@ static void refusals(void) {
     HOLDS(norrabist_refusal(NORRABIST_READER_CONTENT + NORRABIST_HANDSHAKE, content, len, 0)
               .number == NORRABIST_ACCEPTED);
     HOLDS(norrabist_refusal(NORRABIST_READER_CONTENT, tag, 2, 0).number == NORRABIST_SWITCH);
-    HOLDS(norrabist_refusal(0x010a, tag, 2, 0).number == NORRABIST_SWITCH);
+    HOLDS(norrabist_refusal(NORRABIST_READER_CLIENT_HELLO_STRICT, tag, 2, 0).number ==
+          NORRABIST_INCOMPLETE);
+    /* no bytes are SWITCH for a number that is no reader's, and for no other */
+    for (reader = NORRABIST_READER_RECORD_HEADER; reader < NORRABIST_READER_CONTENT; reader++)
+        HOLDS((norrabist_refusal(reader, tag, 0, 0).number == NORRABIST_SWITCH) ==
+              (reader > NORRABIST_READER_CLIENT_HELLO_STRICT));
 }
 
 /* More than a record may hold. */
@@ -415,6 +471,7 @@ int main(void) {
     other_messages();
     messages();
     client_hello();
+    client_hello_strict();
     server_hello();
     certificates();
     others();

@@ -12,7 +12,7 @@ const DIFFERENCES: &str = concat!(env!("CARGO_MANIFEST_DIR"), "/../compare/diffe
 
 #[test]
 fn answers_as_recorded() {
-    let counts = replay("recorded list", LIST, 11_300);
+    let counts = replay("recorded list", LIST, 13_800);
     assert!(counts.iter().all(|count| *count > 0), "a function without a case");
 }
 

@@ -52,6 +52,19 @@ fn rows_2_to_5_extensions_and_tail() {
     reads_h("0001", None, 38);
 }
 
+/// Read strictly, none of them is taken: they have no ciphers.
+#[test]
+fn rows_2_to_5_read_strictly() {
+    for rest in ["", "00", "0000", "0001"] {
+        let body = h(rest);
+        let (_, hello) = parse_tls_handshake_client_hello(&body).expect("a hello");
+        assert_eq!(hello.exactness(), Exactness::NoCiphers);
+        let strict = reason(parse_tls_handshake_client_hello_strict(&body));
+        let message = reason(parse_tls_handshake_msg_client_hello_strict(&body));
+        assert_eq!((strict, message), (Some(Reason::LengthValue), Some(Reason::LengthValue)));
+    }
+}
+
 #[test]
 fn rows_6_and_7_session_ids() {
     assert_eq!(client_refusal(&hello("21")), Some(Reason::Verify));

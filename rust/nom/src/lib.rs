@@ -74,12 +74,14 @@ readers! {
     parse_tls_message_applicationdata() -> TlsMessage;
     parse_tls_message_heartbeat(tls_plaintext_len: u16) -> TlsMessage;
     parse_tls_handshake_client_hello() -> TlsClientHelloContents;
+    parse_tls_handshake_client_hello_strict() -> TlsClientHelloContents;
     parse_tls_handshake_server_hello() -> TlsServerHelloContents;
     parse_tls_handshake_certificaterequest() -> TlsCertificateRequestContents;
     parse_tls_handshake_certificatestatus() -> TlsCertificateStatusContents;
     parse_tls_handshake_next_protocol() -> TlsNextProtocolContent;
     parse_tls_handshake_msg_hello_request() -> TlsMessageHandshake;
     parse_tls_handshake_msg_client_hello() -> TlsMessageHandshake;
+    parse_tls_handshake_msg_client_hello_strict() -> TlsMessageHandshake;
     parse_tls_handshake_msg_server_hello() -> TlsMessageHandshake;
     parse_tls_handshake_msg_hello_retry_request() -> TlsMessageHandshake;
     parse_tls_handshake_msg_certificate() -> TlsMessageHandshake;

@@ -2,7 +2,7 @@
 //! It rests on the Rust binding alone.
 #![allow(dead_code)] // each test takes what it needs
 
-pub mod randoms;
+pub mod hellos;
 pub mod sheet;
 pub mod table;
 pub mod text;
@@ -16,7 +16,7 @@ pub fn reasons<T>(answer: Result<T, Refusal>) -> Result<T, Reason> {
     answer.map_err(|refusal| refusal.reason)
 }
 
-/// The readers and writers, by their names in tls-parser.
+/// The readers and writers, by their names in tls-parser, and the strict readers.
 pub fn functions() -> impl Iterator<Item = &'static str> {
     table::READERS.iter().chain(writing::WRITERS).copied()
 }

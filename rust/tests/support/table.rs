@@ -13,8 +13,8 @@ macro_rules! table {
         short { $($short:ident;)* }
         kinds { $(
             $kind:ident $(($value:ident))?
-            $(, contents $contents:ident)?
-            $(, message $message:ident)?
+            $(, contents $contents:ident)*
+            $(, message $message:ident)*
             $(, sized $sized:ident)?;
         )* }
         shared { $($twin:ident($twin_value:ident) = $version:ident;)* }
@@ -24,7 +24,7 @@ macro_rules! table {
             $(stringify!($whole),)*
             $(stringify!($headed),)*
             $(stringify!($short),)*
-            $($(stringify!($contents),)? $(stringify!($message),)? $(stringify!($sized),)?)*
+            $($(stringify!($contents),)* $(stringify!($message),)* $(stringify!($sized),)?)*
         ];
 
         /// The numbers of a reader's answer; none where there is no such reader, or the length is
@@ -38,8 +38,8 @@ macro_rules! table {
                 })*
                 $((stringify!($short), Some(len)) => told(i, $short(i, len.try_into().ok()?)),)*
                 $(
-                    $((stringify!($contents), None) => told(i, $contents(i)),)?
-                    $((stringify!($message), None) => told(i, $message(i)),)?
+                    $((stringify!($contents), None) => told(i, $contents(i)),)*
+                    $((stringify!($message), None) => told(i, $message(i)),)*
                     $((stringify!($sized), Some(len)) => told(i, $sized(i, len)),)?
                 )*
                 _ => return None,
@@ -89,7 +89,9 @@ table! {
     kinds {
         ClientHello(hello),
             contents parse_tls_handshake_client_hello,
-            message parse_tls_handshake_msg_client_hello;
+            contents parse_tls_handshake_client_hello_strict,
+            message parse_tls_handshake_msg_client_hello,
+            message parse_tls_handshake_msg_client_hello_strict;
         ServerHello(hello),
             contents parse_tls_handshake_server_hello,
             message parse_tls_handshake_msg_server_hello;
