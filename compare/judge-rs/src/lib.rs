@@ -11,6 +11,7 @@ pub mod case;
 pub mod container;
 pub mod count;
 pub mod domain;
+pub mod exactness;
 pub mod generate;
 pub mod made;
 pub mod randoms;

@@ -9,10 +9,10 @@ pub fn read(case: &Case, to: &mut Vec<u64>) {
     let i = &case.input[..];
     let mut sheet = Sheet::new(i, to);
     match case.function {
-        CLIENT_HELLO => {
+        CLIENT_HELLO | CLIENT_HELLO_STRICT => {
             parse_tls_handshake_client_hello(i).iter().for_each(|(_, hello)| random(&mut sheet, hello))
         }
-        MSG_CLIENT_HELLO => {
+        MSG_CLIENT_HELLO | MSG_CLIENT_HELLO_STRICT => {
             parse_tls_handshake_msg_client_hello(i).iter().for_each(|(_, m)| handshake(&mut sheet, m))
         }
         MESSAGE => parse_tls_message_handshake(i).iter().for_each(|(_, m)| message(&mut sheet, m)),

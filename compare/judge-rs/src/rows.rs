@@ -9,8 +9,8 @@ macro_rules! table {
         short { $($short:ident = $short_fn:ident;)* }
         kinds { $(
             $kind:ident $(($value:ident))? = $type:literal
-            $(, contents $contents:ident = $contents_fn:ident)?
-            $(, message $message:ident = $message_fn:ident)?
+            $(, contents $contents:ident = $contents_fn:ident)*
+            $(, message $message:ident = $message_fn:ident)*
             $(, sized $sized:ident = $sized_fn:ident)?;
         )* }
         shared { $($twin:ident($twin_value:ident) = $version:ident;)* }
@@ -20,16 +20,16 @@ macro_rules! table {
         $(pub const $headed: &str = stringify!($headed_fn);)*
         $(pub const $short: &str = stringify!($short_fn);)*
         $(
-            $(pub const $contents: &str = stringify!($contents_fn);)?
-            $(pub const $message: &str = stringify!($message_fn);)?
+            $(pub const $contents: &str = stringify!($contents_fn);)*
+            $(pub const $message: &str = stringify!($message_fn);)*
             $(pub const $sized: &str = stringify!($sized_fn);)?
         )*
         $(pub const $writer: &str = stringify!($writer_fn);)*
 
         /// The readers, in the order of the table.
         pub const READING: [&str; [
-            $($whole,)* $($headed,)* $($short,)* $($($contents,)? $($message,)? $($sized,)?)*
-        ].len()] = [$($whole,)* $($headed,)* $($short,)* $($($contents,)? $($message,)? $($sized,)?)*];
+            $($whole,)* $($headed,)* $($short,)* $($($contents,)* $($message,)* $($sized,)?)*
+        ].len()] = [$($whole,)* $($headed,)* $($short,)* $($($contents,)* $($message,)* $($sized,)?)*];
 
         /// The writers, in the order of the table.
         pub const WRITING: [&str; [$($writer),*].len()] = [$($writer),*];
@@ -52,7 +52,7 @@ macro_rules! table {
         /// The functions that read the body of a handshake type.
         pub fn of_type(handshake_type: u8) -> &'static [&'static str] {
             match handshake_type {
-                $($type => &[$($contents,)? $($message,)? $($sized,)?],)*
+                $($type => &[$($contents,)* $($message,)* $($sized,)?],)*
                 _ => &[],
             }
         }
@@ -68,8 +68,8 @@ macro_rules! table {
                 })*
                 $($short => told(to, i, $short_fn(i, length)),)*
                 $(
-                    $($contents => told(to, i, $contents_fn(i)),)?
-                    $($message => told(to, i, $message_fn(i)),)?
+                    $($contents => told(to, i, $contents_fn(i)),)*
+                    $($message => told(to, i, $message_fn(i)),)*
                     $($sized => told(to, i, $sized_fn(i, length)),)?
                 )*
                 _ => panic!("no function {name}"),

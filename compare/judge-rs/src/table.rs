@@ -1,8 +1,10 @@
-//! The numbers of the wire and the functions of tls-parser, each once. A row for each kind of
-//! handshake message has its type, the functions that read it and, in brackets, what it holds,
-//! which `values.rs` tells. `rows.rs` says what is made of the rows.
+//! The numbers of the wire and the functions of tls-parser, each once; the strict ones, which it
+//! has not, are made of its own in `asked.rs`. A row for each kind of handshake message has its
+//! type, the functions that read it and, in brackets, what it holds, which `values.rs` tells.
+//! `rows.rs` says what is made of the rows.
 
 use crate::answer::told;
+use crate::asked::{parse_tls_handshake_client_hello_strict, parse_tls_handshake_msg_client_hello_strict};
 use crate::asked::{parse_tls_message_applicationdata, parse_tls_message_heartbeat};
 use crate::made::{Client, Draft, Headed, Key, Message, Part, Record, Server};
 use crate::rows::table;
@@ -108,7 +110,9 @@ table! {
     kinds {
         ClientHello(hello) = 0x01,
             contents CLIENT_HELLO = parse_tls_handshake_client_hello,
-            message MSG_CLIENT_HELLO = parse_tls_handshake_msg_client_hello;
+            contents CLIENT_HELLO_STRICT = parse_tls_handshake_client_hello_strict,
+            message MSG_CLIENT_HELLO = parse_tls_handshake_msg_client_hello,
+            message MSG_CLIENT_HELLO_STRICT = parse_tls_handshake_msg_client_hello_strict;
         ServerHello(hello) = 0x02,
             contents SERVER_HELLO = parse_tls_handshake_server_hello,
             message MSG_SERVER_HELLO = parse_tls_handshake_msg_server_hello;

@@ -1,5 +1,6 @@
 //! Where cases are compared.
 
+use crate::exactness::Exactness;
 use crate::norrabist::Norrabist;
 use crate::randoms::Randoms;
 use crate::reading::Reading;
@@ -13,12 +14,13 @@ pub struct Bench<P> {
     pub reading: Reading,
     writing: Writing,
     pub randoms: Randoms,
+    pub exactness: Exactness,
 }
 
 impl<P: Norrabist> Bench<P> {
     pub fn new(norrabist: P) -> Self {
         let (reading, writing, randoms) = (Reading::default(), Writing::default(), Randoms::default());
-        Bench { norrabist, reading, writing, randoms }
+        Bench { norrabist, reading, writing, randoms, exactness: Exactness::default() }
     }
 
     pub fn compare(&mut self, case: &Case) -> Verdict {
@@ -27,7 +29,9 @@ impl<P: Norrabist> Bench<P> {
         } else {
             self.reading.compare(&self.norrabist, case)
         };
-        if self.randoms.compare(&self.norrabist, case, verdict) {
+        let randoms = self.randoms.compare(&self.norrabist, case, verdict);
+        let exactness = self.exactness.compare(&self.norrabist, case, verdict);
+        if randoms && exactness {
             verdict
         } else {
             Verdict::Differs
@@ -38,9 +42,9 @@ impl<P: Norrabist> Bench<P> {
     pub fn told(&self, case: &Case) -> (String, String) {
         let (tls_parser, norrabist) =
             if is_writer(case.function) { self.writing.told() } else { self.reading.told() };
-        match self.randoms.told() {
-            None => (tls_parser, norrabist),
-            Some((random, again)) => (format!("{tls_parser}, {random}"), format!("{norrabist}, {again}")),
-        }
+        let besides = [self.randoms.told(), self.exactness.told()].into_iter().flatten();
+        besides.fold((tls_parser, norrabist), |(tls_parser, norrabist), (one, other)| {
+            (format!("{tls_parser}, {one}"), format!("{norrabist}, {other}"))
+        })
     }
 }

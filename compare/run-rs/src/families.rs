@@ -127,13 +127,16 @@ fn fixed(version: u16) -> Vec<u8> {
     version.to_be_bytes().into_iter().chain(0xc0..0xe0).collect()
 }
 
+/// What reads the body of a ClientHello.
+const CLIENTS: &[&str] = &[CLIENT_HELLO, CLIENT_HELLO_STRICT, MSG_CLIENT_HELLO, MSG_CLIENT_HELLO_STRICT];
+
 fn clients(all: &mut Vec<Family>) {
-    behind(all, &[CLIENT_HELLO, MSG_CLIENT_HELLO], &fixed(TLS12), [6, 11]);
+    behind(all, CLIENTS, &fixed(TLS12), [6, 11]);
     // With an id, with three ciphers, and all but the block.
     for more in [&[2, 7, 8][..], &[0, 0, 6], &[0, 0, 2, 0x13, 1, 1, 0]] {
         let before = [&fixed(TLS10)[..], more].concat();
-        all.push(bare(&[CLIENT_HELLO, MSG_CLIENT_HELLO], &before, SMALL, 5));
-        all.push(bare(&[CLIENT_HELLO, MSG_CLIENT_HELLO], &before, FEW, 9));
+        all.push(bare(CLIENTS, &before, SMALL, 5));
+        all.push(bare(CLIENTS, &before, FEW, 9));
     }
     for frame in [Frame::Message(kind::ClientHello), Frame::Message(kind::ServerHello)] {
         all.push(Family { frame, ..bare(&[MESSAGE], &fixed(TLS12), FEW, 8) });

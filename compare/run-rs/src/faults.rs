@@ -3,6 +3,7 @@
 mod others;
 mod randoms;
 mod readings;
+mod strict;
 mod writings;
 
 use crate::norrabist::{Norrabist, Walk};
@@ -21,6 +22,8 @@ pub enum Fault {
     Walk(fn(Walk) -> Walk),
     /// Changes what is handed out of randoms.
     Random(fn(&Case, &mut Vec<u64>)),
+    /// Changes how exact hellos are said to be.
+    Exactness(fn(&Case, &mut Vec<u64>)),
     /// Changes what tls-parser reads.
     TlsParser(fn(&Case, &mut Vec<u64>)),
 }
@@ -53,6 +56,13 @@ impl<P: Norrabist> Norrabist for Faulty<P> {
         }
     }
 
+    fn exactness(&self, case: &Case, to: &mut Vec<u64>) {
+        self.norrabist.exactness(case, to);
+        if let Fault::Exactness(change) = self.fault {
+            change(case, to);
+        }
+    }
+
     fn write(&self, case: &Case, room: &mut [u8]) -> Wrote {
         let Fault::Writing(change) = self.fault else { return self.norrabist.write(case, room) };
         let before = room.to_vec();
@@ -62,7 +72,7 @@ impl<P: Norrabist> Norrabist for Faulty<P> {
 }
 
 /// What is wrong, and how it is made.
-pub const ALL: [(&str, Fault); 49] = [
+pub const ALL: [(&str, Fault); 57] = [
     ("the rest one byte further", Fault::Reading(readings::rest)),
     ("another refusal", Fault::Reading(readings::refusal)),
     ("a refusal for a value", Fault::Reading(readings::refused)),
@@ -97,9 +107,17 @@ pub const ALL: [(&str, Fault); 49] = [
     ("the first bytes of a longer random as its time", Fault::Random(randoms::longer)),
     ("a random of four bytes without a time", Fault::Random(randoms::four)),
     ("the bytes of a random from the fourth on", Fault::Random(randoms::early)),
+    ("a strict hello without ciphers taken", Fault::Reading(strict::no_ciphers)),
+    ("a strict hello without methods taken", Fault::Reading(strict::no_methods)),
+    ("a strict hello with a tail taken", Fault::Reading(strict::tail)),
+    ("an empty list before the refusals of the plain reader", Fault::Reading(strict::early)),
+    ("a strict hello without extensions refused", Fault::Reading(strict::absent)),
+    ("a tail told before an empty list", Fault::Exactness(strict::tail_first)),
+    ("a hello without methods told as exact", Fault::Exactness(strict::methods_unseen)),
     ("a panic of Norrabist", Fault::Reading(readings::panic)),
     ("a panic of tls-parser", Fault::TlsParser(readings::panic)),
     ("an answer of tls-parser that no difference has", Fault::TlsParser(others::amiss)),
+    ("a test on tls-parser's rest left out", Fault::TlsParser(strict::tail)),
     ("a written byte changed", Fault::Writing(writings::byte)),
     ("a byte written behind the text", Fault::Writing(writings::behind)),
     ("a byte too many told", Fault::Writing(writings::count)),

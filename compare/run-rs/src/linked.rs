@@ -28,7 +28,11 @@ impl Norrabist for Linked {
     }
 
     fn randoms(&self, case: &Case, to: &mut Vec<u64>) {
-        *to = support::randoms::numbers(case.function, &case.input);
+        *to = support::hellos::randoms(case.function, &case.input);
+    }
+
+    fn exactness(&self, case: &Case, to: &mut Vec<u64>) {
+        *to = support::hellos::exactness(case.function, &case.input);
     }
 
     fn write(&self, case: &Case, room: &mut [u8]) -> Result<usize, u64> {

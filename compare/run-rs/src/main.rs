@@ -4,6 +4,7 @@ mod bench;
 mod cut;
 mod documented;
 mod drawn;
+mod exactness;
 mod exhaust;
 mod families;
 mod faults;
@@ -77,7 +78,10 @@ fn compared(cases: u64, seed: u64) -> ExitCode {
     println!("{}", run.tally.table());
     let randoms = &run.bench.randoms;
     let (compared, of_four) = (grouped(randoms.compared), grouped(randoms.of_four));
-    println!("rand_time and rand_bytes of {compared} cases, {of_four} of them made up with a random of four bytes\n");
+    println!(
+        "rand_time and rand_bytes of {compared} cases, {of_four} of them made up with a random of four bytes"
+    );
+    println!("{}\n", run.bench.exactness.table());
     let (cases, alike) = (run.tally.cases, run.tally.alike);
     println!("{} cases answered alike, {} by a listed difference", grouped(alike), grouped(cases - alike));
     println!("SEED {seed}: {} cases compared, 0 unlisted differences", grouped(cases));

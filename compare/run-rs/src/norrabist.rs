@@ -12,6 +12,9 @@ pub trait Norrabist {
     /// The numbers of `rand_time` and `rand_bytes`, of each ClientHello that a case has.
     fn randoms(&self, case: &Case, to: &mut Vec<u64>);
 
+    /// The numbers of `exactness`, of each ClientHello that a case has.
+    fn exactness(&self, case: &Case, to: &mut Vec<u64>);
+
     /// Writes the value that a case says into the room: how many bytes, or the number
     /// of the refusal.
     fn write(&self, case: &Case, room: &mut [u8]) -> Result<usize, u64>;

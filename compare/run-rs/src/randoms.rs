@@ -43,8 +43,9 @@ impl Randoms {
 }
 
 /// The readers that can find a ClientHello.
-fn is_asked(function: &str) -> bool {
-    matches!(function, CLIENT_HELLO | MSG_CLIENT_HELLO | MESSAGE | PLAINTEXT)
+pub fn is_asked(function: &str) -> bool {
+    let of_body = [CLIENT_HELLO, CLIENT_HELLO_STRICT, MSG_CLIENT_HELLO, MSG_CLIENT_HELLO_STRICT];
+    of_body.contains(&function) || matches!(function, MESSAGE | PLAINTEXT)
 }
 
 fn told(numbers: &[u64]) -> String {

@@ -4,8 +4,15 @@
 //! ways and a name for the difference (docs/DIFFERENCES.md), so that an answer of tls-parser is
 //! either the one to give, or the one that a named difference has, or amiss. Handshake messages
 //! are tls-parser's.
+//!
+//! Of the strict ClientHello, RULES 3.14, `strict.rs` is the account: RFC 5246 7.4.1.2.
+//! tls-parser's reading with three tests has to be the same.
 
+mod hello;
 mod reading;
+pub mod strict;
+#[cfg(test)]
+mod strict_tests;
 mod writing;
 
 use crate::answer;
@@ -80,6 +87,7 @@ pub fn is_kept(case: &Case) -> bool {
         PLAINTEXT | WITH_HEADER | GEN_ANY => !of_handshake,
         MANY | GEN_CIPHER_SPEC => true,
         MESSAGE_CIPHER_SPEC | MESSAGE_ALERT | MESSAGE_DATA | MESSAGE_HEARTBEAT => true,
+        CLIENT_HELLO_STRICT | MSG_CLIENT_HELLO_STRICT => true,
         _ => false,
     }
 }

@@ -1,6 +1,6 @@
 //! The readings of which an account is kept.
 
-use super::{By, Class, Way};
+use super::{hello, By, Class, Way};
 use crate::answer::{refusal_of, told_by};
 use crate::case::Case;
 use crate::made::Headed;
@@ -9,7 +9,7 @@ use crate::table::*;
 use tls_parser::*;
 
 /// What is left and the value, or the number of the refusal.
-type Read<'a, T> = Result<(&'a [u8], T), u64>;
+pub type Read<'a, T> = Result<(&'a [u8], T), u64>;
 
 /// How many bytes the type and the length of a heartbeat have.
 const HEAD: usize = 3;
@@ -25,6 +25,8 @@ impl Way {
             MESSAGE_ALERT => told_by(to, i, self.alert(i)),
             MESSAGE_DATA => told_by(to, i, Ok(data(i))),
             MESSAGE_HEARTBEAT => told_by(to, i, self.heartbeat(i, case.length.unwrap_or(0) as usize)),
+            CLIENT_HELLO_STRICT => told_by(to, i, hello::contents(i)),
+            MSG_CLIENT_HELLO_STRICT => told_by(to, i, hello::message(i)),
             WITH_HEADER => {
                 let Headed { hdr, content } = Headed::read(i);
                 told_by(to, content, self.content(&hdr, content));

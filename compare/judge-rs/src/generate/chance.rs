@@ -2,15 +2,16 @@
 
 use super::damage::harm;
 use super::drawn_records::{content, joined};
+use super::exact;
 use crate::bytes::{announced, join, message, record};
 use crate::case::Case;
 use crate::rng::Rng;
 use crate::table::record_type::HANDSHAKE;
 use crate::table::{is_sized, kind, longest, of_type, version, MESSAGE, PLAINTEXT, READING, TYPES};
 
-/// One case.
-pub fn draw(rng: &mut Rng, good: &[Case]) -> Case {
-    match rng.below(12) {
+/// One case; `hellos` are ClientHellos that match exactly.
+pub fn draw(rng: &mut Rng, good: &[Case], hellos: &[Vec<u8>]) -> Case {
+    match rng.below(13) {
         0..=2 => damaged(rng, good),
         3 => any(rng),
         4 => body(rng),
@@ -18,7 +19,8 @@ pub fn draw(rng: &mut Rng, good: &[Case]) -> Case {
         6 => one_message(rng),
         7 => row(rng),
         8..=9 => content(rng),
-        _ => joined(rng),
+        10..=11 => joined(rng),
+        _ => exact::draw(rng, hellos),
     }
 }
 

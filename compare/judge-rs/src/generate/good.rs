@@ -101,6 +101,26 @@ pub fn add(cases: &mut Cases) {
     }
 }
 
+/// Short ClientHellos, with an id and with none.
+pub fn short_hellos() -> Vec<Vec<u8>> {
+    let bodies = short_bodies().into_iter().filter(|(of, _)| *of == kind::ClientHello);
+    let without_id = client(&[0], &[0, 2, 0x13, 1], &[1, 0], &[0, 1, 0xaa]);
+    bodies.map(|(_, body)| body).chain([without_id]).collect()
+}
+
+/// The ClientHellos of the samples, each once.
+pub fn real_hellos() -> Vec<Vec<u8>> {
+    let samples = SAMPLES.map(hex);
+    let records = samples.iter().flat_map(|sample| records(sample));
+    let hellos = records.filter(|record| record[0] == HANDSHAKE && record[5] == kind::ClientHello);
+    hellos.map(|record| record[9..].to_vec()).collect()
+}
+
+/// All ClientHellos that match exactly.
+pub fn hellos() -> Vec<Vec<u8>> {
+    [short_hellos(), real_hellos()].concat()
+}
+
 /// All good inputs as cases, to be damaged; the short ones are twice among them.
 pub fn cases() -> Vec<Case> {
     let mut cases = Cases::default();

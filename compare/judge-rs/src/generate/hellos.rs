@@ -9,11 +9,11 @@ pub fn add(cases: &mut Cases) {
     client_versions(cases);
     client_ids(cases);
     client_ciphers(cases);
-    client_longest(cases);
     client_methods(cases);
     server_versions(cases);
     server_ids(cases);
     extensions(cases);
+    client_longest(cases);
 }
 
 /// A ClientHello; its parts bring their own lengths.

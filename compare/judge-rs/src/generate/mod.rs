@@ -5,6 +5,7 @@ mod collect;
 mod contents;
 mod damage;
 mod drawn_records;
+mod exact;
 mod good;
 mod hellos;
 mod joined;
@@ -23,8 +24,8 @@ type Out<'a> = &'a mut dyn FnMut(&Case) -> io::Result<()>;
 
 /// Hands out `many` cases of the readers; the same seed gives the same ones.
 pub fn generate(seed: u64, many: u64, out: Out) -> io::Result<()> {
-    let good = good::cases();
-    hand_out(fixed(), seed, many, out, |rng| chance::draw(rng, &good))
+    let (good, hellos) = (good::cases(), good::hellos());
+    hand_out(fixed(), seed, many, out, |rng| chance::draw(rng, &good, &hellos))
 }
 
 /// Hands out `many` cases of the writers, likewise.
@@ -68,5 +69,6 @@ fn fixed() -> Vec<Case> {
     joined::add(&mut cases);
     good::add(&mut cases);
     damage::add(&mut cases);
+    exact::add(&mut cases);
     cases.list
 }
