@@ -122,7 +122,7 @@ unfolding step inOrder
 vector-then w r s at k = rw (then-assoc, number-then, ruled-then)
 
 -- the bytes up to a place, where the rows that follow do not ask for them with the same refusal
-abbrev asked : Reason → List ℕ → ℕ → List Row → ℕ → ℕ
+abbrev pub asked : Reason → List ℕ → ℕ → List Row → ℕ → ℕ
 asked why s n [] x = pick (ltb (length s) n) (numberOf why) x
 asked why s n (r ∷ rs) x = pick (eqb (numberOf why) 1) x (pick (ltb (length s) n) (numberOf why) x)
 

@@ -19,7 +19,8 @@ use Rattle.wire.specs.Numbers.{be}
 use Rattle.field.proofs.Texts.{both-true}
 use Rattle.list.specs.Items.{orNoSuch}
 use Rattle.content_walk.specs.declared.TlsRecordWalk.{TlsRecordWalk}
-use Rattle.claim_readers.specs.Readers.{All, _&_, end, Check, ofMessage, inOrder, beside, clientCase, serverCase}
+use Rattle.claim_readers.specs.Readers.{All, _&_, end, Check, ofMessage, inOrder, beside, clientCase, strictCase}
+use Rattle.claim_readers.specs.Readers.{serverCase}
 use Rattle.claim_readers.specs.Readers.{byVersionCase, draft18Case, serverMessageCase, retryCase, ticketCase}
 use Rattle.claim_readers.specs.Readers.{certificateCase, requestCase, statusCase, nextProtocolCase}
 use Rattle.claim_readers.specs.Readers.{keyUpdateCase, wholeCase, openedCase, bodyCase, metCase, ofFirst}
@@ -83,6 +84,10 @@ beside-only : {whys : List Reason} {other : ℕ} (k : ℕ) (table : List (ℕ ×
 unfolding beside
 beside-only k [] end o = o
 beside-only k (x ∷ rest) (p & ps) o = either-way (eqb k (x .0)) p (beside-only k rest ps o)
+
+pub strict-only : (s : List ℕ) → Only (Incomplete ∷ Verify ∷ LengthValue ∷ []) (strictCase s)
+unfolding strictCase clientCase
+strict-only s = either-way (eqb (clientCase s) 0) (checks-only _ refl) (checks-only _ refl)
 
 pub server-message-only : (s : List ℕ) → Only (Incomplete ∷ Verify ∷ Tag ∷ []) (serverMessageCase s)
 unfolding serverMessageCase draft18Case byVersionCase serverCase

@@ -27,7 +27,6 @@ use Rattle.field.specs.Fields.{Field, sized, ruleOf, step, ruled}
 use Rattle.field.specs.declared.RuleName.the-variants.{Plain}
 use Rattle.field.proofs.Rules.{ruled-accepted}
 use Rattle.grammar.specs.Forms.{reading, byVersion, ifListed}
-use Rattle.grammar.specs.Hellos.{clientHello}
 use Rattle.list.specs.Items.{items, itemsFrom, place, itemFrom, numberPlace, orNoSuch}
 use Rattle.list.proofs.Walk.{place-past, place-below}
 use Rattle.list.proofs.Fixed.{count-of}
@@ -59,8 +58,7 @@ use Rattle.record_open.specs.Plaintext.{plainRecord, openedFirst, plaintext, wi
 use Rattle.record_many.specs.Many.{plaintextFrom, many, recordsTold, nextRecord}
 use Rattle.record_many.specs.declared.TlsRecordsWalk.{TlsRecordsWalk}
 use Rattle.record_joined.specs.Joined.{recordFrom}
-use Rattle.claim_readers.specs.Readers.{_&_, end, inOrder, under, less, over, is, beside, clientCase, startCase}
-use Rattle.claim_readers.specs.Readers.{serverCase}
+use Rattle.claim_readers.specs.Readers.{_&_, end, inOrder, less, over, beside, clientCase, startCase, serverCase}
 use Rattle.claim_readers.specs.Readers.{byVersionCase, draft18Case, serverMessageCase, retryCase, ticketCase}
 use Rattle.claim_readers.specs.Readers.{certificateCase, requestCase, statusCase, nextProtocolCase}
 use Rattle.claim_readers.specs.Readers.{keyUpdateCase, wholeCase, openedCase, bodyCase, headChecks, headCase}
@@ -70,25 +68,12 @@ use Rattle.claim_readers.specs.Readers.{plaintextCase, manyCase, placeCa
 use Rattle.claim_readers.specs.Readers.{walkByTypeCase, walkRecordsCase}
 use Rattle.claim_readers.proofs.Checks.{number-on, number-within, number-else, number-pick, then-assoc, not-leb}
 use Rattle.claim_readers.proofs.Checks.{not-even, by-test, fewer-first, part-taken, number-then, fixed-then}
-use Rattle.claim_readers.proofs.Checks.{vector-then, form-then, form-number, rowsNumber, by-number, outside, not-between}
+use Rattle.claim_readers.proofs.Checks.{vector-then, form-then, form-number, by-number, outside, not-between}
 use Rattle.claim_readers.proofs.Checks.{between, and-under, valueAt}
 
--- the checks of a ClientHello's fields, and what is left to say
-pub client-rows : (s : List ℕ) (x : ℕ) → let id = be 1 s 34 in
-    let cs = be 2 s (35 + id) in
-    let ms = be 1 s (37 + id + cs) in
-    rowsNumber (clientHello .rows) s 0 x ≡ inOrder
-    (under s 35 Incomplete
-    ∷ over id 32 Verify
-    ∷ under s (37 + id) Incomplete
-    ∷ is (cs % 2) 1 LengthValue
-    ∷ under s (37 + id + cs) LengthValue
-    ∷ under s (38 + id + cs) Incomplete
-    ∷ under s (38 + id + cs + ms) LengthValue
-    ∷ [])
-    x
-unfolding inOrder
-client-rows s x =
+pub client-hello : (s : List ℕ) → numberIn (reading client s) ≡ clientCase s
+unfolding clientCase inOrder
+client-hello s =
     let id = be 1 s 34 in
     let cs = be 2 s (35 + id) in
     let a : 35 + id + 2 ≡ 37 + id = omega arith in
@@ -97,11 +82,7 @@ client-rows s x =
     let even =
     by-test (eqb (cs % 2) 0) (λ at behind. refusal LengthValue behind 0) (35 + id) (37 + id)
     (its-reason LengthValue (37 + id) 0) in
-    rw (a, b, verify, even, not-leb, not-even)
-
-pub client-hello : (s : List ℕ) → numberIn (reading client s) ≡ clientCase s
-unfolding clientCase
-client-hello s = form-number client s ∙ client-rows s 0
+    rw (form-number client s, a, b, verify, even, not-leb, not-even)
 
 pub start-hello : (s : List ℕ) → numberIn (reading helloStart s) ≡ startCase s
 unfolding startCase inOrder

@@ -1,11 +1,11 @@
 -- The number of the strict ClientHello is its case of `specs/Readers.antt`: the checks of the plain
 -- one, and then those of the lists and of the tail. Assumes nothing.
 use Prim.Native.Nat.{ℕ, _+_, _-_, _≤_, _<_}
-use mathlib.Core.Path.{_≡_, refl, ap, subst, _∙_}
-use mathlib.Core.List.{List}
+use mathlib.Core.Path.{_≡_, refl, sym, ap, subst, _∙_}
+use mathlib.Core.List.{List, [], _∷_}
 use mathlib.Core.Logic.{_⊎_, inl, inr}
 use mathlib.Core.Bool.{Bool, true, false, _||_}
-use mathlib.Core.Option.{some}
+use mathlib.Core.Option.{Option, none, some}
 use native.Mathlib.Omega.{arith}
 use borrow.Author.Tests.{leb-true, leb-false, ltb-false, eq-eqb, ne-eqb, eqb-true, eqb-false}
 use lib.ListN.{length, drop, length-drop}
@@ -13,32 +13,27 @@ use lib.Dec.{leb, ltb, eqb}
 use Rattle.refusal.specs.Answers.{Answer, accepted, refused, numberIn}
 use Rattle.refusal.specs.Refusals.{numberOf, refusal}
 use Rattle.refusal.specs.declared.Reason.the-variants.{Incomplete, LengthValue}
-use Rattle.refusal.proofs.Told.{its-reason}
-use Rattle.wire.specs.Parts.{pick, partOf}
+use Rattle.refusal.specs.declared.Reason.{Reason}
+use Rattle.refusal.specs.declared.Refusal.{Refusal}
+use Rattle.refusal.proofs.Told.{its-reason, not-zero}
+use Rattle.wire.specs.Parts.{pick, ifSome, partOf}
 use Rattle.wire.specs.Numbers.{be}
 use Rattle.wire.specs.declared.view.Part.{Part}
 use Rattle.wire.proofs.Parts.{found, part-in, part-out}
 use Rattle.wire.proofs.Numbers.{number-got, number-no}
-use Rattle.field.specs.Fields.{ruleOf, step}
+use Rattle.field.specs.Fields.{fixed, vector, ruleOf, step}
 use Rattle.field.specs.declared.RuleName.the-variants.{Plain}
 use Rattle.field.proofs.Rules.{ruled-in}
 use Rattle.field.proofs.Steps.{length-part}
-use Rattle.grammar.specs.Hellos.{extensions, clientToFill}
+use Rattle.grammar.specs.Grammars.{Row}
+use Rattle.grammar.specs.Hellos.{extensions, clientHello, clientToFill}
 use Rattle.grammar.specs.Reading.{ifFits, blockAt, lastAt}
 use Rattle.grammar.specs.Strict.{ifExact, strictly}
 use Rattle.read_client.specs.Client.{client, strictClient}
 use Rattle.read_client.specs.declared.TlsClientHelloContents.{TlsClientHelloContents}
-use Rattle.claim_readers.specs.Readers.{inOrder, strictCase}
-use Rattle.claim_readers.proofs.Checks.{form-then, valueAt}
-use Rattle.claim_readers.proofs.Readers.{client-rows}
-
--- what is said behind a check of the bytes is said of bytes that are there
-behind : (l n x a b : ℕ) → (n ≤ l → a ≡ b) → pick (ltb l n) x a ≡ pick (ltb l n) x b
-behind l n x a b f = go (ltb l n) refl
-  where
-    go : (t : Bool) → ltb l n ≡ t → pick (ltb l n) x a ≡ pick (ltb l n) x b
-    go true q = rw q
-    go false q = rw q (f (ltb-false l n q))
+use Rattle.claim_readers.specs.Readers.{Check, inOrder, ifAccepted, clientCase, strictCase}
+use Rattle.claim_readers.proofs.Checks.{asked, rowsNumber, form-then, form-number, valueAt}
+use Rattle.claim_readers.proofs.Readers.{client-hello}
 
 -- a test for 0 that holds where one of two others does
 either-of : (x l m n : ℕ) → (x ≡ 0 → (l ≡ m) ⊎ (l ≡ n)) → ((l ≡ m) ⊎ (l ≡ n) → x ≡ 0) → eqb x 0 ≡ (eqb l m || eqb l n)
@@ -152,9 +147,70 @@ inner s h =
     || eqb (length s) (n + 2 + be 2 s n))) e
     (ends s (35 + id + 2 + cs + 1 + be 1 s (35 + id + 2 + cs)) (omega (arith, e))))
 
+-- what is left to say is said where no check holds
+abbrev Ends-in : (ℕ → ℕ) → Type 0
+Ends-in f = (x : ℕ) → f x ≡ ifAccepted (f 0) x
+
+in-pick : (t : Bool) (n : ℕ) (f : ℕ → ℕ) → (n ≡ 0 → ⊥) → Ends-in f → Ends-in (λ x. pick t n (f x))
+in-pick true n f h e x = rw (ne-eqb n 0 h)
+in-pick false n f h e x = e x
+
+not-0 : (why : Reason) → numberOf why ≡ 0 → ⊥
+not-0 why e = not-zero why (sym e)
+
+in-asked : (why : Reason) (s : List ℕ) (n : ℕ) (rs : List Row) (f : ℕ → ℕ) → Ends-in f
+    → Ends-in (λ x. asked why s n rs (f x))
+in-asked why s n [] f e = in-pick (ltb (length s) n) (numberOf why) f (not-0 why) e
+in-asked why s n (r ∷ rs) f e = go (eqb (numberOf why) 1)
+  where
+    go : (t : Bool) → Ends-in (λ x. pick t (f x) (pick (ltb (length s) n) (numberOf why) (f x)))
+    go true = e
+    go false = in-pick (ltb (length s) n) (numberOf why) f (not-0 why) e
+
+in-rule : (o : Option (ℕ → ℕ → Refusal)) (at behind : ℕ) (f : ℕ → ℕ) → Ends-in f
+    → Ends-in (λ x. ifSome o (λ made. numberOf (made at behind .reason)) (f x))
+in-rule none at behind f e x = e x
+in-rule (some made) at behind f e x = rw (ne-eqb (numberOf (made at behind .reason)) 0 (not-0 (made at behind .reason)))
+
+in-rows : (rs : List Row) (s : List ℕ) (at : ℕ) → Ends-in (rowsNumber rs s at)
+in-rows [] s at = λ x. refl
+in-rows ((fixed n, m) ∷ rs) s at =
+    in-asked Incomplete s (at + n) rs (rowsNumber rs s (at + n)) (in-rows rs s (at + n))
+in-rows ((vector w r, m) ∷ rs) s at =
+    let past = at + w + be w s at in
+    in-pick (ltb (length s) (at + w)) 1 _ (λ e. omega (arith, e))
+    (in-rule (r .broken (be w s at)) at (at + w) _
+    (in-asked (r .past) s past rs (rowsNumber rs s past) (in-rows rs s past)))
+
+-- where there is no refusal, no check held
+abbrev NoneHeld : List Check → Type 0
+NoneHeld [] = Unit
+NoneHeld ((t, why) ∷ checks) = (t ≡ false) × NoneHeld checks
+
+none-held : (checks : List Check) → inOrder checks 0 ≡ 0 → NoneHeld checks
+unfolding inOrder
+none-held [] e = tt
+none-held ((true, why) ∷ checks) e = absurd (not-0 why e)
+none-held ((false, why) ∷ checks) e = (refl, none-held checks e)
+
+-- so a ClientHello is there
+there : (s : List ℕ) → clientCase s ≡ 0 → let id = be 1 s 34 in
+    let cs = be 2 s (35 + id) in
+    38 + id + cs + be 1 s (37 + id + cs) ≤ length s
+unfolding clientCase
+there s e = ltb-false _ _ (none-held _ e .1 .1 .1 .1 .1 .1 .0)
+
+-- and what is left to say of it are the three checks
+after-plain : (s : List ℕ) (t : Bool) → eqb (clientCase s) 0 ≡ t
+    → ifAccepted (clientCase s) (numberIn (ifExact client clientToFill s (valueAt client s))) ≡ strictCase s
+unfolding strictCase inOrder
+after-plain s true q = rw q (inner s (there s (eqb-true (clientCase s) 0 q)))
+after-plain s false q = rw q
+
 pub strict-hello : (s : List ℕ) → numberIn (strictClient s) ≡ strictCase s
-unfolding strictly strictCase inOrder
+unfolding strictly
 strict-hello s =
+    let plain : rowsNumber (clientHello .rows) s 0 0 ≡ clientCase s = sym (form-number client s) ∙ client-hello s in
     form-then client s (ifExact client clientToFill s)
-    ∙ client-rows s (numberIn (ifExact client clientToFill s (valueAt client s)))
-    ∙ rw (behind (length s) _ 4 _ _ (inner s))
+    ∙ in-rows (clientHello .rows) s 0 (numberIn (ifExact client clientToFill s (valueAt client s)))
+    ∙ rw plain (after-plain s (eqb (clientCase s) 0) refl)

@@ -39,7 +39,7 @@ use Rattle.claim_readers.proofs.Readers.{content-of, plaintext-record, 
 use Rattle.claim_readers.proofs.Readers.{plaintext-at, plaintext-many, number-place, items-from-place}
 use Rattle.claim_readers.proofs.Readers.{item-places, number-places, any-number-place, numbers, walks}
 use Rattle.claim_readers.proofs.Readers.{walks-by-type, walks-records}
-use Rattle.claim_readers.proofs.Only.{Only, none-refused, checks-only, only-order, server-message-only, opened-only}
+use Rattle.claim_readers.proofs.Only.{Only, none-refused, checks-only, only-order, strict-only, server-message-only, opened-only}
 use Rattle.claim_readers.proofs.Only.{met-only, heartbeat-in-only, found-only, content-only, plaintext-only, many-only}
 use Rattle.claim_readers.proofs.Only.{place-only, walk-only, walk-by-type-only, walk-records-only, no-such}
 
@@ -199,7 +199,7 @@ every-reading = record {
       row client-hello (λ s. checks-only _ refl)
       (unfold inOrder be in ([], refl) & (longId, refl) & (oddCiphers, refl) & end);
   strictHello =
-      row strict-hello (λ s. checks-only _ refl)
+      row strict-hello strict-only
       (unfold inOrder be in ([], refl) & (longId, refl) & (oddCiphers, refl) & end);
   serverHello =
       λ hasExt. row (server-hello hasExt) (λ s. checks-only _ refl)

@@ -73,28 +73,20 @@ clientCase s =
     ∷ [])
     0
 
--- RULES 3.14, RFC 5246 7.4.1.2. The strict ClientHello: after all of these, no ciphers, no methods,
--- or bytes behind the methods that are not a length of 2 and as many bytes
+-- what is left to say where there is no refusal yet
+abbrev pub ifAccepted : ℕ → ℕ → ℕ
+ifAccepted c k = pick (eqb c 0) k c
+
+-- RULES 3.14, RFC 5246 7.4.1.2. The strict ClientHello: after all refusals of the plain one no
+-- ciphers, no methods, or bytes behind the methods that are not a length of 2 and as many bytes
 unfoldable pub strictCase : List ℕ → ℕ
 strictCase s =
     let id = be 1 s 34 in
     let cs = be 2 s (35 + id) in
-    let behind = 37 + id + cs in
-    let ms = be 1 s behind in
+    let ms = be 1 s (37 + id + cs) in
     let end = 38 + id + cs + ms in
-    inOrder
-    (under s 35 Incomplete
-    ∷ over id 32 Verify
-    ∷ under s (37 + id) Incomplete
-    ∷ is (cs % 2) 1 LengthValue
-    ∷ under s behind LengthValue
-    ∷ under s (38 + id + cs) Incomplete
-    ∷ under s end LengthValue
-    ∷ is cs 0 LengthValue
-    ∷ is ms 0 LengthValue
-    ∷ neither (length s) end (end + 2 + be 2 s end) LengthValue
-    ∷ [])
-    0
+    ifAccepted (clientCase s)
+    (inOrder (is cs 0 LengthValue ∷ is ms 0 LengthValue ∷ neither (length s) end (end + 2 + be 2 s end) LengthValue ∷ []) 0)
 
 -- RULES 3.2, 3.3: what both hellos begin with, version 2, random 32, length 1 and id
 unfoldable pub startCase : List ℕ → ℕ
