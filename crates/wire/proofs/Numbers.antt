@@ -5,8 +5,7 @@ use mathlib.Core.Path.{_≡_, refl, ap, ap₂, sym, _∙_}
 use mathlib.Core.Logic.{_⊎_, inl, inr}
 use mathlib.Core.List.{List, _∷_, _++_, append-assoc}
 use native.Mathlib.Omega.{arith}
-use native.Mathlib.Numerals.{add-one}
-use native.Mathlib.Nat.{pow-suc, zero-add, div-add-mod', pow-le-pow-right}
+use native.Mathlib.Nat.{pow-suc, zero-add, div-add-mod'}
 use lib.ListN.{length, getD, take, drop, length-append}
 use lib.Seq.{getD-drop, getD-at, take-suc}
 use Rattle.refusal.specs.Answers.{Answer, accepted, refused, OneResult}
@@ -49,10 +48,6 @@ be-of (suc w) n rest h =
     )
     (div-add-mod' n 256)
 
--- one byte more
-pub be-next : (k n b : ℕ) → n < 256 ^ k → b < 256 → n * 256 + b < 256 ^ (k + 1)
-be-next k n b h l = rw (add-one, pow-suc) (omega arith)
-
 -- the number of w bytes is below 256 to the w
 pub be-lt : (w : ℕ) (s : List ℕ) (at : ℕ) → Bytes s → be w s at < 256 ^ w
 unfolding be
@@ -71,10 +66,6 @@ of-be (suc w) s b h =
 
 pub every-width : (w : ℕ) → EachUndoes w
 every-width w = record { long = length-bytes w; back = be-of w; forth = of-be w; holds = be-lt w }
-
--- what fits in three bytes or fewer leaves room for one byte more in a usize
-pub small : (k n : ℕ) → k ≤ 3 → n < 256 ^ k → n < 16777216
-small k n h l = omega (arith, pow-le-pow-right {n = 256} (omega arith) h)
 
 -- the four widths
 pub width-bounds : (w : Width) → (1 ≤ bytesIn w) × (bytesIn w ≤ 4)

@@ -1,8 +1,8 @@
 // Big-endian numbers of 1, 2, 3 and 4 bytes (RFC 5246 4.4), read and written.
 ghost use mathlib.Core.Path.{_≡_};
-ghost use Prim.Native.Nat.{_+_, _^_, _≤_, _<_};
+ghost use Prim.Native.Nat.{_+_, _*_, _/_, _%_, _^_, _≤_, _<_};
 ghost use lib.Dec.{ltb};
-ghost use lib.ListN.{length};
+ghost use lib.ListN.{getD, length};
 ghost use Rattle.wire.specs.Numbers.{be, bytesOf, bytesIn, numberAt, numberSays, numberText, Below};
 ghost use Rattle.wire.specs.Puts.{put, room, written, writeSays};
 use crate::output::WriteAnswer;
@@ -61,18 +61,60 @@ pub fn width_holds(w: Width, n: usize) -> bool
     n < limit(w)
 }
 
+// A byte as a number.
+fn wide(b: u8) -> usize
+    ensures { λ r. ⌜ (r ≡ b) × (r < 256) ⌝ }
+{
+    b as usize
+}
+
+// The two bytes from `at` on, the first as the lower one, as most machines load two bytes at once.
+// It stands apart, so that the compiler makes the load before it sees the swap (docs/DECISIONS.md).
+fn two_swapped(s: &[u8], at: usize) -> usize
+    requires { ⌜ at + 2 ≤ length (now s) ⌝ }
+    ensures { λ r. ⌜ (r % 256 ≡ getD (now (s .entry)) at 0) × (r / 256 ≡ getD (now (s .entry)) (at + 1) 0) × (r < 256 ^ 2) ⌝ }
+{
+    wide(s[at + 1]) * 256 + wide(s[at])
+}
+
+// The number of the two bytes from `at` on.
+fn two_bytes(s: &[u8], at: usize) -> usize
+    requires { ⌜ at + 2 ≤ length (now s) ⌝ }
+    ensures { λ r. ⌜ (r ≡ getD (now (s .entry)) at 0 * 256 + getD (now (s .entry)) (at + 1) 0) × (r < 256 ^ 2) ⌝ }
+{
+    let n = two_swapped(s, at);
+    n % 256 * 256 + n / 256
+}
+
+// The number of the three bytes from `at` on. The order of the sum is the one that compiles to two
+// loads (docs/DECISIONS.md).
+fn three_bytes(s: &[u8], at: usize) -> usize
+    requires { ⌜ at + 3 ≤ length (now s) ⌝ }
+    ensures { λ r. ⌜ (r ≡ getD (now (s .entry)) at 0 * 256 ^ 2 + getD (now (s .entry)) (at + 1) 0 * 256 + getD (now (s .entry)) (at + 2) 0) × (r < 256 ^ 3) ⌝ }
+{
+    wide(s[at + 2]) + two_bytes(s, at) * 256
+}
+
+// The number of the four bytes from `at` on.
+fn four_bytes(s: &[u8], at: usize) -> usize
+    requires { ⌜ at + 4 ≤ length (now s) ⌝ }
+    ensures { λ r. ⌜ (r ≡ getD (now (s .entry)) at 0 * 256 ^ 3 + getD (now (s .entry)) (at + 1) 0 * 256 ^ 2 + getD (now (s .entry)) (at + 2) 0 * 256 + getD (now (s .entry)) (at + 3) 0) × (r < 256 ^ 4) ⌝ }
+{
+    wide(s[at + 3]) + three_bytes(s, at) * 256
+}
+
 // The number of the `count` bytes from `at` on.
 fn number_of(s: &[u8], at: usize, count: usize) -> usize
     requires { ⌜ (count ≤ 4) × (at + count ≤ length (now s)) ⌝ }
     ensures { λ r. ⌜ (r ≡ be count (now (s .entry)) at) × (r < 256 ^ count) ⌝ }
 {
-    let mut n: usize = 0;
-    let mut k: usize = 0;
-    while k < count {
-        n = n * 256 + (s[at + k] as usize);
-        k += 1;
+    match count {
+        0 => 0,
+        1 => wide(s[at]),
+        2 => two_bytes(s, at),
+        3 => three_bytes(s, at),
+        _ => four_bytes(s, at),
     }
-    n
 }
 
 // The number that stands at a place.
