@@ -22,6 +22,7 @@ had() {
     c++) echo "the C++ compiler|apt-get install g++" ;;
     python3) echo "which runs ./papers and ./judge|apt-get install python3" ;;
     valgrind) echo "which counts instructions|apt-get install valgrind" ;;
+    qemu-*) echo "which runs programs of that machine|apt-get install qemu-user" ;;
     apt-get | dpkg) echo "which fetches what tls-parser needs|take a Debian system, or one made of it" ;;
     git) echo "which tells the commit|apt-get install git" ;;
     ar | nm) echo "which reads archives|apt-get install binutils" ;;
