@@ -150,6 +150,9 @@ fn heartbeat(heartbeat_type: u8, payload_len: u16, i: &[u8]) -> Option<TlsMessag
 }
 
 /// The heartbeat that a content is, which was found to be one: type and length stand at its front.
+/// The length is decoded here (RULES 6.18), since the proved reader has looked at it when the record
+/// was opened, and a further call would do all of that again; that the parts follow is
+/// `ContentsBack`.
 #[inline(always)]
 pub(crate) fn whole_heartbeat(content: &[u8]) -> Option<TlsMessage<'_>> {
     let [heartbeat_type, high, low, ..] = *content else { return None };

@@ -23,7 +23,9 @@ macro_rules! all {
     }};
 }
 
-/// The number of a piece of two bytes.
+/// The number of a piece of two bytes. It is decoded here and not by the proved reader
+/// (`norrabist_number_at`), since that is a call for each number, which no inlining reaches; that
+/// the two are one is `ListsBack`, and the comparison runs it.
 #[inline(always)]
 fn big_endian(piece: &[u8]) -> u16 {
     match *piece {
