@@ -59,11 +59,12 @@ enum norrabist_reason {
     /* INCOMPLETE in the first message of a record, but for a heartbeat, or in the first of joined
        records; both CertificateRequest forms run out */
     NORRABIST_COMPLETE = 2,
-    /* session id length over MAX_ID_LEN; ticket body under TICKET_AT bytes */
+    /* session id length over MAX_ID_LEN; ticket body under LIFETIME_LEN bytes */
     NORRABIST_VERIFY = 3,
     /* cipher length odd or past the end; method length past the end; ChangeCipherSpec not 1; alert
-       level or heartbeat type not 1 or 2; payload that leaves under MIN_PADDING_LEN bytes; a hello
-       read strictly with no ciphers, no methods or a tail */
+       level or heartbeat type not 1 or 2; payload that leaves under MIN_PADDING_LEN bytes; ticket
+       length missing or unlike the bytes after it; a hello read strictly with no ciphers, no
+       methods or a tail */
     NORRABIST_LENGTH_VALUE = 4,
     /* ServerHello version not listed */
     NORRABIST_TAG = 5,
@@ -228,6 +229,8 @@ enum norrabist_length {
     NORRABIST_MAX_RECORD_LEN = 0x4100,
     /* a session id */
     NORRABIST_MAX_ID_LEN = 32,
+    /* the lifetime hint of a NewSessionTicket */
+    NORRABIST_LIFETIME_LEN = 4,
     /* the ciphers of a hello, an even number of bytes */
     NORRABIST_MAX_CIPHERS_LEN = 0xfffe,
     /* the methods of a hello */
@@ -254,8 +257,8 @@ enum norrabist_length {
     NORRABIST_DRAFT18_EXT_AT = 38,
     /* the extensions of a HelloRetryRequest */
     NORRABIST_RETRY_EXT_AT = 6,
-    /* the ticket of a NewSessionTicket */
-    NORRABIST_TICKET_AT = 4,
+    /* the ticket of a NewSessionTicket, behind its length */
+    NORRABIST_TICKET_AT = 6,
     /* the list of a Certificate */
     NORRABIST_CHAIN_AT = 3,
     /* the types of a CertificateRequest */
@@ -583,7 +586,9 @@ static inline size_t norrabist_new_session_ticket_tail(norrabist_new_session_tic
 }
 
 /* The body of a NewSessionTicket, the first `len` bytes of `i`.
-   Refuses: VERIFY, where `len` is under TICKET_AT, then INCOMPLETE. */
+   Refuses: VERIFY, where `len` is under LIFETIME_LEN, then INCOMPLETE, then LENGTH_VALUE, where the
+   ticket's length is missing from these bytes or unlike the bytes after it. What stands behind them
+   is not looked at. */
 norrabist_new_session_ticket_told norrabist_parse_tls_handshake_msg_newsessionticket(
     const uint8_t *i, size_t i_len, size_t len);
 

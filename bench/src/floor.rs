@@ -203,8 +203,11 @@ fn body(msg_type: u8, i: &[u8]) -> Result<usize, Refusal> {
         SERVER_HELLO if version(i) == Ok(TLS13_DRAFT18) => array::<36>(i).map(|_| 2)?,
         SERVER_HELLO => answer(&read_server_hello(i)?),
         NEW_SESSION_TICKET => {
-            let (hint, ticket) = array(i).map_err(|_| Verify)?;
-            u32::from_be_bytes(*hint) as usize + ticket.len()
+            let (hint, i) = array(i).map_err(|_| Verify)?;
+            match part16(i) {
+                Ok((ticket, [])) => u32::from_be_bytes(*hint) as usize + ticket.len(),
+                _ => return Err(LengthValue),
+            }
         }
         END_OF_EARLY_DATA => 2,
         HELLO_RETRY_REQUEST => array::<4>(i).map(|_| 2)?,

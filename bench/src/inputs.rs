@@ -102,7 +102,7 @@ fn short_round() -> Vec<u8> {
         message(SERVER_DONE, &[]),
         message(KEY_UPDATE, &[1]),
         message(CLIENT_KEY_EXCHANGE, &[8; 8]),
-        message(NEW_SESSION_TICKET, &[0, 0, 0, 9, 5, 5]),
+        message(NEW_SESSION_TICKET, &[0, 0, 0, 9, 0, 0]),
         message(CERTIFICATE_VERIFY, &[4; 4]),
         message(NEXT_PROTOCOL, &[2, b'h', b'2', 0]),
     ]

@@ -41,7 +41,8 @@ fn message(m: &TlsMessageHandshake) -> usize {
         TlsMessageHandshake::Certificate(c) => certificate(c),
         TlsMessageHandshake::CertificateRequest(r) => request(r),
         TlsMessageHandshake::CertificateStatus(s) => s.blob.len(),
-        TlsMessageHandshake::NewSessionTicket(t) => t.ticket_lifetime_hint as usize + t.ticket.len(),
+        // its two bytes of length are part of the ticket here
+        TlsMessageHandshake::NewSessionTicket(t) => t.ticket_lifetime_hint as usize + t.ticket.len() - 2,
         TlsMessageHandshake::ServerKeyExchange(k) => k.parameters.len(),
         TlsMessageHandshake::ClientKeyExchange(TlsClientKeyExchangeContents::Unknown(k)) => k.len(),
         TlsMessageHandshake::ServerDone(b) | TlsMessageHandshake::CertificateVerify(b) => b.len(),

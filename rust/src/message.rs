@@ -233,7 +233,8 @@ pub fn parse_tls_handshake_msg_hello_request(i: &[u8]) -> Read<'_, TlsMessageHan
 ///
 /// # Errors
 ///
-/// `Verify`, where `len` is below 4; `Incomplete`.
+/// `Verify`, where `len` is below 4; `Incomplete`; `LengthValue`, where the ticket's length is missing
+/// from these bytes or unlike the bytes after it. What stands behind `len` bytes is not looked at.
 #[inline]
 pub fn parse_tls_handshake_msg_newsessionticket(i: &[u8], len: usize) -> Read<'_, TlsMessageHandshake<'_>> {
     let told = ffi::sized_ticket(i, len);

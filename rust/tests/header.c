@@ -317,16 +317,23 @@ static void certificates(void) {
 }
 
 static void others(void) {
-    static const uint8_t ticket[] = {0, 1, 0, 2, 0xaa, 0xbb}, next[] = {1, 0x68, 2, 0, 0, 0xff};
+    static const uint8_t ticket[] = {0, 1, 0, 2, 0, 1, 0xaa, 0xbb}, next[] = {1, 0x68, 2, 0, 0, 0xff};
     norrabist_new_session_ticket_told told =
-        norrabist_parse_tls_handshake_msg_newsessionticket(ticket, sizeof ticket, 5);
+        norrabist_parse_tls_handshake_msg_newsessionticket(ticket, sizeof ticket, 7);
     norrabist_next_protocol_told named =
         norrabist_parse_tls_handshake_next_protocol(next, sizeof next);
 
     HOLDS(told.number == NORRABIST_ACCEPTED && told.hint == 0x10002 && told.ticket == 1);
-    HOLDS(ticket[NORRABIST_TICKET_AT] == 0xaa && norrabist_new_session_ticket_tail(told) == 5);
-    HOLDS(norrabist_parse_tls_handshake_msg_newsessionticket(ticket, sizeof ticket, 3).number ==
-          NORRABIST_VERIFY);
+    HOLDS(ticket[NORRABIST_TICKET_AT] == 0xaa && norrabist_new_session_ticket_tail(told) == 7);
+    HOLDS(norrabist_parse_tls_handshake_msg_newsessionticket(ticket, sizeof ticket,
+                                                             NORRABIST_LIFETIME_LEN - 1)
+              .number == NORRABIST_VERIFY);
+    HOLDS(norrabist_parse_tls_handshake_msg_newsessionticket(ticket, sizeof ticket, 9).number ==
+          NORRABIST_INCOMPLETE);
+    for (size_t len = NORRABIST_LIFETIME_LEN; len <= sizeof ticket; len++)
+        if (len != 7)
+            HOLDS(norrabist_parse_tls_handshake_msg_newsessionticket(ticket, sizeof ticket, len)
+                      .number == NORRABIST_LENGTH_VALUE);
     HOLDS(named.number == NORRABIST_ACCEPTED && named.protocol == 1 && named.padding == 2);
     HOLDS(next[NORRABIST_PROTOCOL_AT] == 0x68 && norrabist_next_protocol_padding(named) == 3);
     HOLDS(norrabist_next_protocol_tail(named) == 5);

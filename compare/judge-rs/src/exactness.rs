@@ -2,9 +2,9 @@
 //! which looks at their bytes.
 
 use crate::account::strict::{strict, Refused};
+use crate::account::walked;
 use crate::case::Case;
 use crate::table::*;
-use tls_parser::parse_tls_plaintext;
 
 /// What is said of a hello, by its number.
 pub const SAID: [&str; 4] = ["exact", "without ciphers", "without methods", "with a tail"];
@@ -35,10 +35,7 @@ fn bodies(case: &Case) -> Vec<&[u8]> {
     match case.function {
         CLIENT_HELLO | CLIENT_HELLO_STRICT | MSG_CLIENT_HELLO | MSG_CLIENT_HELLO_STRICT => vec![i],
         MESSAGE => hellos(i, 1),
-        PLAINTEXT if i.first() == Some(&record_type::HANDSHAKE) => {
-            let messages = parse_tls_plaintext(i).map_or(0, |(_, record)| record.msg.len());
-            hellos(&i[5..], messages)
-        }
+        PLAINTEXT if i.first() == Some(&record_type::HANDSHAKE) => hellos(&i[5..], walked(case).0),
         _ => Vec::new(),
     }
 }

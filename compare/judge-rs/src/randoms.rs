@@ -1,7 +1,7 @@
 //! What the trait `ClientHello` adds to the fields, time and bytes of the random, of the
 //! ClientHellos of a case: those that are read, or the one to be written.
 
-use crate::{case::Case, made::Client, sheet::Sheet, table::*, write};
+use crate::{account, case::Case, made::Client, sheet::Sheet, table::*, write};
 use tls_parser::*;
 
 /// The numbers of each ClientHello in its order, put behind those that are there.
@@ -18,7 +18,8 @@ pub fn read(case: &Case, to: &mut Vec<u64>) {
         MESSAGE => parse_tls_message_handshake(i).iter().for_each(|(_, m)| message(&mut sheet, m)),
         PLAINTEXT => {
             let messages = parse_tls_plaintext(i).ok().map(|(_, record)| record.msg);
-            messages.iter().flatten().for_each(|m| message(&mut sheet, m));
+            // tls-parser's go on behind a ticket that the account refuses
+            messages.iter().flatten().take(account::walked(case).0).for_each(|m| message(&mut sheet, m));
         }
         GEN_CLIENT_HELLO => random(&mut sheet, &write::hello(&Client::read(i))),
         _ => {}

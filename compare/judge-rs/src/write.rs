@@ -2,7 +2,7 @@
 
 use crate::made::{Client, Draft, Key, Message, Record, Server};
 use crate::table::{self, refusal};
-use crate::{answer::wrote, case::Case, domain};
+use crate::{account, answer::wrote, case::Case, domain};
 use cookie_factory::gen_simple;
 use tls_parser::*;
 
@@ -98,15 +98,15 @@ pub fn any(m: &Message) -> Written {
     gen_simple(gen_tls_message(&m), Vec::new())
 }
 
-/// The first message as tls-parser reads it, and what stands behind it.
+/// The first message as both read it, a NewSessionTicket by the account, and what stands behind it.
 pub fn message(i: &[u8]) -> Option<(&[u8], TlsMessageHandshake<'_>)> {
-    match parse_tls_message_handshake(i) {
+    match account::message(i) {
         Ok((rest, TlsMessage::Handshake(m))) => Some((rest, m)),
         _ => None,
     }
 }
 
-/// Messages one behind the other, all of which tls-parser reads.
+/// Messages one behind the other, all of which are read.
 fn messages(content: &[u8]) -> Option<Vec<TlsMessage<'_>>> {
     let mut all = Vec::new();
     let mut left = content;

@@ -52,6 +52,7 @@ pub fn all() -> Vec<Family> {
     servers(&mut all);
     lists(&mut all);
     others(&mut all);
+    tickets(&mut all);
     all
 }
 
@@ -166,4 +167,18 @@ fn others(all: &mut Vec<Family>) {
     all.push(bare(&[MSG_KEY_UPDATE, MSG_HELLO_REQUEST], &[], SMALL, 4));
     let lengths = &[0, 1, 2, 3, 4, 5, 6, 7, 8, 1 << 32, u64::MAX - 3, u64::MAX];
     all.push(Family { lengths, ..bare(&SIZED, &[], SMALL, 6) });
+}
+
+/// Behind a lifetime every small length and ticket: by given lengths, in a message, and in a record.
+fn tickets(all: &mut Vec<Family>) {
+    let lifetime = [0, 0, 0x0e, 0x10];
+    let lengths = &[0, 3, 4, 5, 6, 7, 8, 9, 10, 11, 1 << 32 | 6, u64::MAX];
+    all.push(Family { lengths, ..bare(&[MSG_TICKET], &lifetime, SMALL, 6) });
+    let frame = Frame::Message(kind::NewSessionTicket);
+    all.push(Family { frame, ..bare(&[MESSAGE], &lifetime, SMALL, 7) });
+    for n in 0..=7 {
+        let before = [&[kind::NewSessionTicket, 0, 0, 4 + n][..], &lifetime].concat();
+        let frame = Frame::Record(HANDSHAKE);
+        all.push(Family { frame, ..bare(OPENING, &before, FEW, 8) });
+    }
 }

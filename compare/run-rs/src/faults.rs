@@ -4,6 +4,7 @@ mod others;
 mod randoms;
 mod readings;
 mod strict;
+mod tickets;
 mod writings;
 
 use crate::norrabist::{Norrabist, Walk};
@@ -72,7 +73,7 @@ impl<P: Norrabist> Norrabist for Faulty<P> {
 }
 
 /// What is wrong, and how it is made.
-pub const ALL: [(&str, Fault); 57] = [
+pub const ALL: [(&str, Fault); 70] = [
     ("the rest one byte further", Fault::Reading(readings::rest)),
     ("another refusal", Fault::Reading(readings::refusal)),
     ("a refusal for a value", Fault::Reading(readings::refused)),
@@ -114,9 +115,22 @@ pub const ALL: [(&str, Fault); 57] = [
     ("a strict hello without extensions refused", Fault::Reading(strict::absent)),
     ("a tail told before an empty list", Fault::Exactness(strict::tail_first)),
     ("a hello without methods told as exact", Fault::Exactness(strict::methods_unseen)),
+    ("a ticket with its length still in it", Fault::Reading(tickets::kept)),
+    ("a ticket without a length taken", Fault::Reading(tickets::missing)),
+    ("a ticket without a length as Incomplete", Fault::Reading(tickets::incomplete)),
+    ("a ticket with a length over its bytes taken", Fault::Reading(tickets::over)),
+    ("a ticket with a length under its bytes taken", Fault::Reading(tickets::under)),
+    ("the bytes behind the given length of a ticket looked at", Fault::Reading(tickets::behind)),
+    ("the length of a ticket before Incomplete", Fault::Reading(tickets::early)),
+    ("the ticket of a message as tls-parser's", Fault::Reading(tickets::message)),
+    ("the tickets of a record as tls-parser's", Fault::Reading(tickets::record)),
+    ("the tickets behind a header as tls-parser's", Fault::Reading(tickets::content)),
+    ("the tickets of many records as tls-parser's", Fault::Reading(tickets::joined)),
+    ("a record refused for a later ticket", Fault::Reading(tickets::later)),
     ("a panic of Norrabist", Fault::Reading(readings::panic)),
     ("a panic of tls-parser", Fault::TlsParser(readings::panic)),
     ("an answer of tls-parser that no difference has", Fault::TlsParser(others::amiss)),
+    ("a ticket of tls-parser's that no difference has", Fault::TlsParser(tickets::amiss)),
     ("a test on tls-parser's rest left out", Fault::TlsParser(strict::tail)),
     ("a written byte changed", Fault::Writing(writings::byte)),
     ("a byte written behind the text", Fault::Writing(writings::behind)),

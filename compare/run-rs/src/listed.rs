@@ -16,6 +16,7 @@ pub enum Listed {
     HeartbeatPast,
     HeartbeatLength,
     HeartbeatRest,
+    TicketLength,
     CipherSpecWritten,
     AlertWritten,
     Dropped,
@@ -35,7 +36,7 @@ pub enum Listed {
     NoRoom,
 }
 
-pub const ALL: [Listed; 25] = [
+pub const ALL: [Listed; 26] = [
     ApplicationData,
     CipherSpecByte,
     AlertLevel,
@@ -44,6 +45,7 @@ pub const ALL: [Listed; 25] = [
     HeartbeatPast,
     HeartbeatLength,
     HeartbeatRest,
+    TicketLength,
     CipherSpecWritten,
     AlertWritten,
     Dropped,
@@ -73,6 +75,7 @@ const _: () = {
 };
 
 const OTHERS: &str = "Records that are no handshake records";
+const TICKETS: &str = "NewSessionTickets";
 const ADDED: &str = "Norrabist and tls-parser";
 const CUT: &str = "Lengths that tls-parser's writers cut";
 
@@ -104,6 +107,7 @@ impl Listed {
             HeartbeatPast => (OTHERS, "A heartbeat's payload past the end"),
             HeartbeatLength => (OTHERS, "A heartbeat's given length"),
             HeartbeatRest => (OTHERS, "What is left behind a heartbeat"),
+            TicketLength => (TICKETS, "A NewSessionTicket's length"),
             CipherSpecWritten => (OTHERS, "A ChangeCipherSpec is written"),
             AlertWritten => (OTHERS, "An alert is written"),
             Dropped => (ADDED, "how many bytes of a record were dropped"),
@@ -136,6 +140,7 @@ impl From<Class> for Listed {
             Class::HeartbeatPast => HeartbeatPast,
             Class::HeartbeatLength => HeartbeatLength,
             Class::HeartbeatRest => HeartbeatRest,
+            Class::TicketLength => TicketLength,
             Class::CipherSpecWritten => CipherSpecWritten,
             Class::AlertWritten => AlertWritten,
         }

@@ -25,7 +25,7 @@ impl Randoms {
         self.tls_parser.clear();
         self.norrabist.clear();
         let made_up = case.function == GEN_CLIENT_HELLO;
-        if !(made_up || is_asked(case.function) && verdict == Verdict::Same(0)) {
+        if !(made_up || is_asked(case.function) && verdict.is_accepted()) {
             return true;
         }
         guard::numbers(&mut self.tls_parser, |to| randoms::read(case, to));

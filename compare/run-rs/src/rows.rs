@@ -9,25 +9,28 @@ use std::io;
 
 type Out<'a> = &'a mut dyn FnMut(&Case) -> io::Result<()>;
 
-const PIECES: [&[u8]; 12] = [
+const PIECES: [&[u8]; 15] = [
     // Whole messages that are opened.
     &[kind::HelloRequest, 0, 0, 0],
     &[kind::ServerDone, 0, 0, 1, 0xaa],
     &[kind::Finished, 0, 0, 2, 0xbb, 0xcc],
     &[kind::KeyUpdate, 0, 0, 1, 1],
     &[kind::Certificate, 0, 0, 6, 0, 0, 3, 0, 0, 0],
-    // Whole messages that are refused: Switch, Incomplete, Verify, Tag, Complete.
+    &[kind::NewSessionTicket, 0, 0, 6, 0, 0, 0, 0, 0, 0],
+    // Whole messages that are refused: Switch, Incomplete, Verify, Tag, Complete, LengthValue twice.
     &[0x03, 0, 0, 0],
     &[kind::ClientHello, 0, 0, 0],
     &[kind::NewSessionTicket, 0, 0, 3, 0, 0, 0],
     &[kind::ServerHello, 0, 0, 2, 0x03, 0x04],
     &[kind::CertificateRequest, 0, 0, 0],
+    &[kind::NewSessionTicket, 0, 0, 4, 0, 0, 0, 0],
+    &[kind::NewSessionTicket, 0, 0, 7, 0, 0, 0, 0, 0, 0, 0],
     // A head, and less than a head.
     &[kind::EndOfEarlyData, 0, 0, 3],
     &[kind::HelloRequest],
 ];
 
-const RECORDS: [&[u8]; 15] = [
+const RECORDS: [&[u8]; 17] = [
     // Whole records that are opened, some with bytes that are in no message.
     &[0x16, 3, 3, 0, 4, 0, 0, 0, 0],
     &[0x16, 3, 3, 0, 5, 0x0e, 0, 0, 0, 0xff],
@@ -37,11 +40,13 @@ const RECORDS: [&[u8]; 15] = [
     &[0x15, 3, 3, 0, 5, 1, 0, 0, 0, 1],
     &[0x17, 3, 3, 0, 0],
     &[0x18, 3, 3, 0, 20, 1, 0, 1, 7, 0, 0, 0, 0, 0, 0, 0, 0, 0, 0, 0, 0, 0, 0, 0, 0],
+    &[0x16, 3, 3, 0, 18, 4, 0, 0, 6, 0, 0, 0, 0, 0, 0, 4, 0, 0, 4, 0, 0, 0, 0],
     // Whole records that are refused: Switch, Complete, LengthValue, Incomplete.
     &[0x19, 3, 3, 0, 0],
     &[0x15, 3, 3, 0, 1, 1],
     &[0x15, 3, 3, 0, 2, 3, 0],
     &[0x18, 3, 3, 0, 3, 1, 0, 0],
+    &[0x16, 3, 3, 0, 8, 4, 0, 0, 4, 0, 0, 0, 0],
     &[0x18, 3, 3, 0, 2, 1, 0],
     // A header that is too large, and less than a header.
     &[0x14, 3, 3, 0x41, 1],

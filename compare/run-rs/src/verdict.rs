@@ -11,3 +11,10 @@ pub enum Verdict {
     /// Another answer that is on no list, or a panic.
     Differs,
 }
+
+impl Verdict {
+    /// Whether the answer, the same or the list's, is no refusal.
+    pub fn is_accepted(self) -> bool {
+        matches!(self, Verdict::Same(0) | Verdict::Listed(_, 0))
+    }
+}

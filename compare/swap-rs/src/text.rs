@@ -1,8 +1,10 @@
 //! What both crates print: numbers with names, cipher suites, and every value and error of the
 //! recorded readings.
 
+use judge::account;
 use judge::case::Case;
 use judge::made::Headed;
+use judge::table::{MSG_TICKET, WITH_HEADER};
 use judge::text::PARTED;
 use std::fmt::Debug;
 
@@ -112,7 +114,8 @@ fn read<'a, T: Debug, U: Debug>(
     }
 }
 
-/// A handshake record's content, opened behind its header, and what is left over of it.
+/// A handshake record's content, opened behind its header, and what is left over of it; but where
+/// the two part as listed.
 fn content(case: &Case, compared: &mut Compared) -> Result<(), Differs> {
     let (ours, theirs) = match (
         norrabist_nom::parse_tls_raw_record(&case.input),
@@ -121,7 +124,9 @@ fn content(case: &Case, compared: &mut Compared) -> Result<(), Differs> {
         (Ok((_, ours)), Ok((_, theirs))) => (ours, theirs),
         _ => return Ok(()),
     };
-    if theirs.hdr.record_type != tls_parser::TlsRecordType::Handshake {
+    let input = case.input[..5 + theirs.data.len()].to_vec();
+    let is_parted = account::is_parted(&Case { function: WITH_HEADER, length: None, input });
+    if theirs.hdr.record_type != tls_parser::TlsRecordType::Handshake || is_parted {
         return Ok(());
     }
     headed(case, (ours.data, &ours.hdr), (theirs.data, &theirs.hdr), compared)
@@ -142,8 +147,24 @@ fn headed<'a>(
     read(case, ours, theirs, compared)
 }
 
+/// A NewSessionTicket that is taken: tls-parser's type, with the ticket by the account.
+fn ticket(case: &Case, compared: &mut Compared) -> Result<(), Differs> {
+    let length = case.length.unwrap_or(0).try_into().expect("a length of its width");
+    let ours = norrabist_nom::parse_tls_handshake_msg_newsessionticket(&case.input, length);
+    match (ours, account::ticket(&case.input, length)) {
+        (Ok((_, ours)), Ok((_, by_account))) => {
+            compared.values += 1;
+            printed(&|| case.to_string(), &ours, &by_account)
+        }
+        _ => Ok(()),
+    }
+}
+
 fn case(line: &str, compared: &mut Compared) -> Result<(), Differs> {
     let case: Case = line.parse()?;
+    if case.function == MSG_TICKET {
+        ticket(&case, compared)?;
+    }
     if case.function == "parse_tls_raw_record" || case.function == "parse_tls_plaintext" {
         content(&case, compared)?;
     }

@@ -211,7 +211,7 @@ every-reading = record {
   ofRetry = row of-retry (λ s. checks-only _ refl) (unfold inOrder in ([], refl) & end);
   ofTicket =
       row (λ (n, s). of-ticket n s) (λ (n, s). checks-only _ refl)
-      (unfold inOrder in ((4, []), refl) & ((0, []), refl) & end);
+      (unfold inOrder in ((4, []), refl) & ((0, []), refl) & ((4, replicate 4 0), refl) & end);
   ofCertificate = row of-certificate (λ s. checks-only _ refl) (unfold inOrder in ([], refl) & end);
   ofRequest = row of-request (λ s. checks-only _ refl) (unfold inOrder in ([], refl) & end);
   ofStatus = row of-status (λ s. checks-only _ refl) (unfold inOrder in ([], refl) & end);

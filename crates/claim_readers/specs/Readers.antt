@@ -51,6 +51,10 @@ over x n why = (ltb n x, why)
 abbrev pub is : ℕ → ℕ → Reason → Check
 is x n why = (eqb x n, why)
 
+-- it is another than n
+abbrev pub other : ℕ → ℕ → Reason → Check
+other x n why = (pick (eqb x n) false true, why)
+
 -- it is neither m nor n
 abbrev pub neither : ℕ → ℕ → ℕ → Reason → Check
 neither x m n why = (pick (eqb x m || eqb x n) false true, why)
@@ -119,9 +123,10 @@ serverMessageCase s = inOrder (under s 2 Incomplete ∷ []) (pick (eqb (be 2 s 0
 unfoldable pub retryCase : List ℕ → ℕ
 retryCase s = inOrder (under s 4 Incomplete ∷ []) 0
 
--- RULES 4.14, RFC 5077 3.3. NewSessionTicket of a given length: Verify comes first
+-- RULES 4.2, 4.14, RFC 5077 3.3. NewSessionTicket of a given length: Verify comes first; then
+-- lifetime 4, length 2 and as many bytes as it says, to the last one
 unfoldable pub ticketCase : ℕ → List ℕ → ℕ
-ticketCase n s = inOrder (less n 4 Verify ∷ under s n Incomplete ∷ []) 0
+ticketCase n s = inOrder (less n 4 Verify ∷ under s n Incomplete ∷ less n 6 LengthValue ∷ other n (6 + be 2 s 4) LengthValue ∷ []) 0
 
 -- RULES 4.4, RFC 5246 7.4.2. Certificate: length 3, then a list
 unfoldable pub certificateCase : List ℕ → ℕ
@@ -352,7 +357,7 @@ pub record Readers : Type 0 where
   pub draft18Hello : Gives (reading draft18) draft18Case (Incomplete ∷ [])
   -- the other bodies
   pub ofRetry : Gives (reading retry) retryCase (Incomplete ∷ [])
-  pub ofTicket : GivesTold sessionTicket ticketCase (Incomplete ∷ Verify ∷ [])
+  pub ofTicket : GivesTold sessionTicket ticketCase (Incomplete ∷ Verify ∷ LengthValue ∷ [])
   pub ofCertificate : Gives (reading certificate) certificateCase (Incomplete ∷ [])
   pub ofRequest : Gives certificateRequest requestCase (Complete ∷ [])
   pub ofStatus : Gives (reading status) statusCase (Incomplete ∷ [])

@@ -5,10 +5,12 @@ use Rattle.refusal.specs.Refusals.{refusal, inside}
 use Rattle.wire.specs.Parts.{partAt}
 use Rattle.wire.specs.Numbers.{be, bytesOf, numberAt, numberText}
 use Rattle.field.specs.Fields.{ruled, step}
+use Rattle.field.specs.Closing.{closeAt}
 use Rattle.grammar.specs.Splits.{join}
 use Rattle.grammar.specs.Reading.{fieldsAt, blockAt, read}
 use Rattle.grammar.specs.Forms.{reading, byVersion}
 use Rattle.grammar.specs.Strict.{strictly}
+use Rattle.grammar.specs.Closed.{closed}
 use Rattle.list.specs.Items.{itemsFrom, place}
 use Rattle.write_rules.specs.HelloTexts.{mayWrite, helloBytes, helloText}
 use Rattle.write_rules.specs.MessageTexts.{headText, messageText}
@@ -52,10 +54,15 @@ unfolding rows messageText headText numberText helloText mayWrite helloBytes joi
 all-read =
     ((refl, refl), ((refl, refl), ((refl, refl), ((refl, refl), ((refl, refl), ((refl, refl), ((refl, refl), r7)))))))
 
+o63 : AllRead (drop 63 ownRows)
+unfolding ownRows message byTypeIn sessionTicket closed closeAt many recordsTold plaintextFrom plaintext openedFirst contents firstOf foundAt cipherSpecFound alertFound handshakeFound applicationFound heartbeatFound changeCipherSpec alertFirst heartbeatOf heartbeatIn cipherSpecAt alertAt applicationData heartbeat metAt headAt plainRecord itemsFrom place endOf reading read fieldsAt blockAt step ruled numberAt be bytesOf partAt refusal inside
+o63 =
+    ((refl, refl), ((refl, refl), ((refl, refl), ((refl, refl), ((refl, refl), ((refl, refl), ((refl, refl), tt)))))))
+
 o56 : AllRead (drop 56 ownRows)
-unfolding ownRows many recordsTold plaintextFrom plaintext openedFirst contents firstOf foundAt cipherSpecFound alertFound handshakeFound applicationFound heartbeatFound changeCipherSpec alertFirst heartbeatOf heartbeatIn cipherSpecAt alertAt applicationData heartbeat metAt headAt plainRecord itemsFrom place endOf reading read fieldsAt blockAt step ruled numberAt be bytesOf partAt refusal inside
+unfolding ownRows message byTypeIn sessionTicket closed closeAt many recordsTold plaintextFrom plaintext openedFirst contents firstOf foundAt cipherSpecFound alertFound handshakeFound applicationFound heartbeatFound changeCipherSpec alertFirst heartbeatOf heartbeatIn cipherSpecAt alertAt applicationData heartbeat metAt headAt plainRecord itemsFrom place endOf reading read fieldsAt blockAt step ruled numberAt be bytesOf partAt refusal inside
 o56 =
-    ((refl, refl), ((refl, refl), ((refl, refl), ((refl, refl), ((refl, refl), tt)))))
+    ((refl, refl), ((refl, refl), ((refl, refl), ((refl, refl), ((refl, refl), ((refl, refl), ((refl, refl), o63)))))))
 
 o49 : AllRead (drop 49 ownRows)
 unfolding ownRows many recordsTold plaintextFrom plaintext openedFirst contents firstOf foundAt cipherSpecFound alertFound handshakeFound applicationFound heartbeatFound changeCipherSpec alertFirst heartbeatOf heartbeatIn cipherSpecAt alertAt applicationData heartbeat metAt headAt plainRecord itemsFrom place endOf reading read fieldsAt blockAt step ruled numberAt be bytesOf partAt refusal inside
@@ -73,27 +80,27 @@ o35 =
     ((refl, refl), ((refl, refl), ((refl, refl), ((refl, refl), ((refl, refl), ((refl, refl), ((refl, refl), o42)))))))
 
 o28 : AllRead (drop 28 ownRows)
-unfolding ownRows message metAt headAt byTypeIn serverMessage wholeBody sessionTicket certificateRequest plaintext openedFirst contents firstOf foundAt cipherSpecFound alertFound handshakeFound plainRecord itemsFrom endOf byVersion reading read fieldsAt blockAt step ruled numberAt cipherSpecAt alertAt be bytesOf partAt refusal inside many recordsTold plaintextFrom applicationFound heartbeatFound changeCipherSpec alertFirst heartbeatOf heartbeatIn applicationData heartbeat place
+unfolding ownRows message metAt headAt byTypeIn serverMessage wholeBody sessionTicket closed closeAt certificateRequest plaintext openedFirst contents firstOf foundAt cipherSpecFound alertFound handshakeFound plainRecord itemsFrom endOf byVersion reading read fieldsAt blockAt step ruled numberAt cipherSpecAt alertAt be bytesOf partAt refusal inside many recordsTold plaintextFrom applicationFound heartbeatFound changeCipherSpec alertFirst heartbeatOf heartbeatIn applicationData heartbeat place
 o28 =
     ((refl, refl), ((refl, refl), ((refl, refl), ((refl, refl), ((refl, refl), ((refl, refl), ((refl, refl), o35)))))))
 
 o21 : AllRead (drop 21 ownRows)
-unfolding ownRows message metAt headAt byTypeIn serverMessage wholeBody sessionTicket certificateRequest plaintext openedFirst contents firstOf foundAt handshakeFound plainRecord itemsFrom endOf byVersion reading read fieldsAt blockAt step ruled numberAt be bytesOf partAt refusal inside cipherSpecFound alertFound cipherSpecAt alertAt
+unfolding ownRows message metAt headAt byTypeIn serverMessage wholeBody sessionTicket closed closeAt certificateRequest plaintext openedFirst contents firstOf foundAt handshakeFound plainRecord itemsFrom endOf byVersion reading read fieldsAt blockAt step ruled numberAt be bytesOf partAt refusal inside cipherSpecFound alertFound cipherSpecAt alertAt
 o21 =
     ((refl, refl), ((refl, refl), ((refl, refl), ((refl, refl), ((refl, refl), ((refl, refl), ((refl, refl), o28)))))))
 
 o14 : AllRead (drop 14 ownRows)
-unfolding ownRows message metAt headAt byTypeIn serverMessage wholeBody sessionTicket certificateRequest plaintext openedFirst contents firstOf foundAt handshakeFound plainRecord itemsFrom endOf byVersion reading read fieldsAt blockAt step ruled numberAt be bytesOf partAt refusal inside
+unfolding ownRows message metAt headAt byTypeIn serverMessage wholeBody sessionTicket closed closeAt certificateRequest plaintext openedFirst contents firstOf foundAt handshakeFound plainRecord itemsFrom endOf byVersion reading read fieldsAt blockAt step ruled numberAt be bytesOf partAt refusal inside
 o14 =
     ((refl, refl), ((refl, refl), ((refl, refl), ((refl, refl), ((refl, refl), ((refl, refl), ((refl, refl), o21)))))))
 
 o7 : AllRead (drop 7 ownRows)
-unfolding ownRows message metAt headAt byTypeIn serverMessage wholeBody sessionTicket certificateRequest plaintext openedFirst contents firstOf foundAt handshakeFound plainRecord itemsFrom endOf byVersion reading read fieldsAt blockAt step ruled numberAt be bytesOf partAt refusal inside
+unfolding ownRows message metAt headAt byTypeIn serverMessage wholeBody sessionTicket closed closeAt certificateRequest plaintext openedFirst contents firstOf foundAt handshakeFound plainRecord itemsFrom endOf byVersion reading read fieldsAt blockAt step ruled numberAt be bytesOf partAt refusal inside
 o7 =
     ((refl, refl), ((refl, refl), ((refl, refl), ((refl, refl), ((refl, refl), ((refl, refl), ((refl, refl), o14)))))))
 
 all-own : AllRead ownRows
-unfolding ownRows message metAt headAt byTypeIn serverMessage wholeBody sessionTicket certificateRequest plaintext openedFirst contents firstOf foundAt handshakeFound plainRecord itemsFrom endOf byVersion strictly reading read fieldsAt blockAt step ruled numberAt be bytesOf partAt refusal inside
+unfolding ownRows message metAt headAt byTypeIn serverMessage wholeBody sessionTicket closed closeAt certificateRequest plaintext openedFirst contents firstOf foundAt handshakeFound plainRecord itemsFrom endOf byVersion strictly reading read fieldsAt blockAt step ruled numberAt be bytesOf partAt refusal inside
 all-own =
     ((refl, refl), ((refl, refl), ((refl, refl), ((refl, refl), ((refl, refl), ((refl, refl), ((refl, refl), o7)))))))
 

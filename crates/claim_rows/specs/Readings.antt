@@ -1,7 +1,7 @@
 -- The eighteen rows of RULES 8 in one table, and readings of our own in a second one: strict
 -- ClientHellos, a message of each type but 0x00, which row 13 has, a ServerHello of each version,
--- records of each type, joined ones. Bytes are written by their number: `03 000001` is `bytesOf 4
--- 0x03_000001`.
+-- records of each type, joined ones, a ticket's length. Bytes are written by their number: `03
+-- 000001` is `bytesOf 4 0x03_000001`.
 use Rattle.refusal.specs.{ℕ, _+_, _≡_, List, [], _∷_, _++_, Option, none, some, replicate, numberOf, Answer, accepted, then, numberIn, valuesIn, Reason, Incomplete, Complete, Verify, LengthValue, Tag, Switch, TooLarge, NoSuch}
 use Rattle.wire.specs.{partOf, bytesOf, OptView, Absent, Present, View}
 use Rattle.field.specs.{sized}
@@ -11,6 +11,8 @@ use Rattle.write_rules.specs.{helloText, headText, messageText}
 use Rattle.read_client.specs.{client, strictClient, TlsClientHelloContents}
 use Rattle.read_server.specs.{serverVersions, TlsServerHelloContents}
 use Rattle.read_certs.specs.{certificate, certificateRequest, TlsCertificateRequestContents}
+use Rattle.read_others.specs.Body.{sessionTicket}
+use Rattle.read_others.specs.declared.ticket.TlsNewSessionTicketContent.{TlsNewSessionTicketContent}
 use Rattle.message.specs.{HelloRequest, ClientHello, ServerHello, ServerHelloV13Draft18, NewSessionTicket, EndOfEarlyData, HelloRetryRequest, Certificate, ServerKeyExchange, CertificateRequest, ServerDone, CertificateVerify, ClientKeyExchange, Finished, CertificateStatus, NextProtocol, KeyUpdate, Unknown}
 use Rattle.envelope.specs.{message}
 use Rattle.content.specs.{TlsMessage, Handshake, ChangeCipherSpec, Alert, ApplicationData, Heartbeat, changeCipherSpec, alertFirst, heartbeatOf}
@@ -36,10 +38,11 @@ reject {A} n call s why = record { row = n; Value = A; call = call; input = s; n
 
 -- a function is told by what its contract says: `reading client` is
 -- `parse_tls_handshake_client_hello`, `strictClient` is `parse_tls_handshake_client_hello_strict`,
--- `byVersion serverVersions` and `certificateRequest` are those of their bodies, `message` is
--- `parse_tls_message_handshake`, `changeCipherSpec`, `alertFirst` and `heartbeatOf` are those of
--- these messages, `plaintext` is `parse_tls_plaintext`, `many` is `tls_parser_many`; and this one
--- hands what is read as a ClientHello to `gen_tls_clienthello`
+-- `byVersion serverVersions`, `certificateRequest` and `sessionTicket n`, n being the length given,
+-- are those of their bodies, `message` is `parse_tls_message_handshake`, `changeCipherSpec`,
+-- `alertFirst` and `heartbeatOf` are those of these messages, `plaintext` is `parse_tls_plaintext`,
+-- `many` is `tls_parser_many`; and this one hands what is read as a ClientHello to
+-- `gen_tls_clienthello`
 abbrev pub writtenBack : List ℕ → Answer (List ℕ)
 writtenBack s = then (reading client s) (λ c. messageText (headText 0x01) (helloText client s c))
 
@@ -135,8 +138,12 @@ beat kind n = bytesOf 5 (0x18_0303_0000 + 3 + n) ++ (bytesOf 1 kind ++ (bytesOf 
 abbrev pub oneEach : OptView → ℕ → TlsClientHelloContents
 oneEach ext tail = record { version = 0x0303; random = span 2 32; «session_id» = Absent; ciphers = span 37 2; comp = span 40 1; ext = ext; tail = tail }
 
+-- what is handed out of `00000000 0000`
+abbrev pub emptyTicket : TlsNewSessionTicketContent
+emptyTicket = record { «ticket_lifetime_hint» = 0; ticket = span 6 0; tail = 6 }
+
 -- our own: an id of exactly 32, strict hellos, and each version; each type, its parts of lengths
--- that differ; each record type, and joined records
+-- that differ; each record type, and joined records; a ticket's length at its edges
 unfoldable pub ownRows : List RulesRow
 ownRows =
     accept 0 (reading client) (from0303Z (bytesOf 1 0x20 ++ (replicate 32 0 ++ bytesOf 8 0x0004_002f_0035_01_00)))
@@ -157,7 +164,7 @@ ownRows =
     ∷ accept 0 message (bytesOf 4 0x02_000028 ++ S 0x0303) (ServerHello (plainServer 0x0303 (Present (span 40 0)) 40))
     ∷ accept 0 message (bytesOf 6 0x02_000026_7f12 ++ (replicate 32 0 ++ bytesOf 4 0x1301_0000))
     (ServerHelloV13Draft18 (record { version = 0x7f12; random = span 2 32; cipher = 0x1301; ext = Present (span 38 0); tail = 38 }))
-    ∷ accept 0 message (bytesOf 10 0x04_000006_01020304_aabb) (NewSessionTicket (record { «ticket_lifetime_hint» = 0x01020304; ticket = span 4 2; tail = 6 }))
+    ∷ accept 0 message (bytesOf 12 0x04_000008_01020304_0002_aabb) (NewSessionTicket (record { «ticket_lifetime_hint» = 0x01020304; ticket = span 6 2; tail = 8 }))
     ∷ reject 0 message (bytesOf 7 0x04_000003_010203) Verify
     ∷ accept 0 message (bytesOf 5 0x05_000001_ff) EndOfEarlyData
     ∷ accept 0 message (bytesOf 11 0x06_000007_7f12_1301_0001_aa) (HelloRetryRequest (record { version = 0x7f12; cipher = 0x1301; ext = Present (span 6 1); tail = 7 }))
@@ -202,6 +209,15 @@ ownRows =
     ∷ reject 0 many [] Complete
     ∷ accept 0 many (bytesOf 7 0x14_0303_0002_0102 ++ bytesOf 7 0x15_0303_0002_0228) (record { count = 2; end = 14 })
     ∷ accept 0 many (bytesOf 5 0x17_0303_0000 ++ bytesOf 6 0x14_0303_0001_02) (record { count = 1; end = 5 })
+    ∷ reject 0 message (bytesOf 8 0x04_000004_00000000) LengthValue
+    ∷ reject 0 message (bytesOf 9 0x04_000005_00000000_00) LengthValue
+    ∷ accept 0 message (bytesOf 10 0x04_000006_00000000_0000) (NewSessionTicket emptyTicket)
+    ∷ reject 0 message (bytesOf 10 0x04_000006_00000000_0001) LengthValue
+    ∷ reject 0 message (bytesOf 11 0x04_000007_00000000_0000_aa) LengthValue
+    ∷ accept 0 (sessionTicket 6) (bytesOf 7 0x00000000_0000_aa) emptyTicket
+    ∷ reject 0 (sessionTicket 5) (bytesOf 6 0x00000000_0000) LengthValue
+    ∷ accept 0 plaintext (bytesOf 17 0x16_0303_000c_00000000_04000004_00000000) (plain 0x16 12 1 8)
+    ∷ reject 0 plaintext (bytesOf 13 0x16_0303_0008_04000004_00000000) LengthValue
     ∷ []
 
 -- the claim over a table

@@ -12,6 +12,7 @@ use Rattle.wire.specs.Parts.{pick, partOf, optPartOf}
 use Rattle.wire.specs.declared.view.View.{View}
 use Rattle.wire.specs.declared.view.OptView.{OptView}
 use Rattle.wire.specs.declared.view.OptView.the-variants.{Absent, Present}
+use Rattle.wire.proofs.Numbers.{bytes-take}
 use Rattle.field.specs.Fields.{Field, fixed, vector}
 use Rattle.field.specs.Standing.{fieldBytes}
 use Rattle.grammar.specs.Grammars.{How, asView, asOpt, asNumber, Row, gather}
@@ -35,12 +36,6 @@ pub bytes-number : (w n : ℕ) → Bytes (bytesOf w n)
 unfolding bytesOf
 bytes-number zero n = no-bytes
 bytes-number (suc w) n = bytes-append (bytesOf w (n / 256)) (n % 256 ∷ []) (bytes-number w (n / 256)) (one-byte n)
-
-bytes-take : (n : ℕ) (s : List ℕ) → Bytes s → Bytes (take n s)
-bytes-take zero s b i = omega arith
-bytes-take (suc n) [] b i = omega arith
-bytes-take (suc n) (x ∷ s) b zero = b 0
-bytes-take (suc n) (x ∷ s) b (suc i) = bytes-take n s (λ j. b (suc j)) i
 
 bytes-part : (s : List ℕ) (v : View) → Bytes s → Bytes (partOf s v)
 bytes-part s v b = go (leb (v .start + v .len) (length s))

@@ -1,20 +1,21 @@
 -- Everything that is claimed beyond the contracts of single functions, of the forms, lists,
 -- messages and records of this code: one field for each theorem. RULES cites them, or what they
 -- claim, beside its rules. `claims::all_claims` promises them all, so that none can go missing.
--- `EveryForm` and `EveryListing` (`grammar/specs/Demand3.antt`) and `EveryStrict`
--- (`grammar/specs/Strict.antt`), over all contents, are what the fields of demand 3 are shown by,
--- and have no field.
+-- `EveryForm` and `EveryListing` (`grammar/specs/Demand3.antt`), `EveryStrict`
+-- (`grammar/specs/Strict.antt`) and `EveryClosed` (`grammar/specs/Closed.antt`), over all contents,
+-- are what the fields of demand 3 and `splitsTicket` are shown by, and have no field.
 use Rattle.refusal.specs.{ℕ, _≤_, _≡_, Bool, List, getD, RefT, NumbersApart, accepted, OneResult, true, false}
 use Rattle.wire.specs.{ifSome, partOf, partSays, Bytes, numberSays, EachUndoes, writeSays, View}
 use Rattle.field.specs.{Field, fixed, sized, least}
-use Rattle.grammar.specs.{clientToFill, BySplit, ByVersion, ByExactSplit}
+use Rattle.field.specs.Closing.{EveryClosing, EveryLength}
+use Rattle.grammar.specs.{clientToFill, BySplit, ByVersion, ByExactSplit, ByClosedSplit}
 use Rattle.list.specs.{NoneMore, ByItems}
 use Rattle.read_start.specs.Start.{startSays}
 use Rattle.read_client.specs.{client, clientSays, TellsExactness, TlsClientHelloContents}
 use Rattle.read_server.specs.{server, serverVersions, serverSays, draft18, draft18Says, TlsServerHelloContents, TlsServerHelloV13Draft18Contents}
 use Rattle.read_certs.specs.{certificate, certificateSays, request, requestSays, status, statusSays, OfRequest}
 use Rattle.cert_reader.specs.Chain.{SameItems}
-use Rattle.read_others.specs.Body.{retry, retrySays, ticketSays, nextProtocol, nextProtocolSays, OfTicket}
+use Rattle.read_others.specs.Body.{retry, retrySays, ticketForm, ticketSays, nextProtocol, nextProtocolSays, OfTicket}
 use Rattle.message.specs.{messageSays, TlsMessageHandshake, kindNumber, typeOf, bodyWritten}
 use Rattle.write_message.specs.Written.{handshakeText}
 use Rattle.open_hellos.specs.HelloMessages.{AsMessage}
@@ -108,13 +109,17 @@ pub record Claims : Type 0 where
   pub methods : OfBytes (ByItems (fixed 1))
   pub ciphers : OfBytes (ByItems (fixed 2))
   -- the other bodies that hold fields, by their grammars; which form a CertificateRequest is read
-  -- by; the ticket by its length
+  -- by; a field of any kind that has to end with the bytes, and one behind a length by numbers; the
+  -- ticket by its closed form, and by the length given and the one that stands in it
   pub splitsCertificate : OfBytes (BySplit certificate)
   pub splitsRequest : (long : Bool) → OfBytes (BySplit (request long))
   pub chooses : OfBytes OfRequest
   pub splitsStatus : OfBytes (BySplit status)
   pub splitsRetry : OfBytes (BySplit retry)
   pub splitsNextProtocol : OfBytes (BySplit nextProtocol)
+  pub closing : EveryClosing
+  pub closingLength : EveryLength
+  pub splitsTicket : OfBytes (ByClosedSplit ticketForm)
   pub ticket : (n : ℕ) → OfBytes (OfTicket n)
   -- records, joined ones, the walk over one, the messages of a content of every type, joined ones
   -- that are opened, the reader that holds its list, and a part of a part as a part of the whole

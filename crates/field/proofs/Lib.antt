@@ -1,3 +1,4 @@
 pub mod Rules
 pub mod Steps
+pub mod Closing
 pub mod Texts

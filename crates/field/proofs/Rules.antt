@@ -29,6 +29,14 @@ allows-none r n e = go (r .broken n) e
     go none e = refl
     go (some x) e = let z : _≡_ {A = ℕ} 0 1 = cc in absurd (omega arith)
 
+-- and not allowed just where it gets one
+pub allows-some : (r : Rule) (n : ℕ) → allows r n ≡ false → (x : ℕ → ℕ → Refusal) × (r .broken n ≡ some x)
+allows-some r n e = go (r .broken n) e
+  where
+    go : (o : Option (ℕ → ℕ → Refusal)) → ifSome o (λ x. false) true ≡ false → (x : ℕ → ℕ → Refusal) × (o ≡ some x)
+    go none e = let z : _≡_ {A = ℕ} 0 1 = cc in absurd (omega arith)
+    go (some x) e = (x, refl)
+
 pub none-allows : (r : Rule) (n : ℕ) → r .broken n ≡ none → allows r n ≡ true
 none-allows r n e = rw e
 

@@ -8,13 +8,16 @@ ghost use Rattle.wire.specs.Numbers.{bytesIn};
 ghost use Rattle.wire.specs.Parts.{partSays};
 ghost use Rattle.wire.specs.Puts.{room, written, writeSays};
 ghost use Rattle.field.specs.Fields.{Field, ruleOf, ruled, step};
+ghost use Rattle.field.specs.Closing.{closeAt};
 ghost use Rattle.field.specs.Texts.{allows, allowed, fieldText};
 use refusal::Reason;
 use refusal::Refusal;
 use wire::number::NumberAnswer;
 use wire::number::Width;
 use wire::output::WriteAnswer;
+use wire::view::Part;
 use wire::view::PartAnswer;
+use wire::view::View;
 
 // Names the rule that a length is held to, by what stands behind it.
 pub enum RuleName {
@@ -85,6 +88,32 @@ pub fn length_data(s: &[u8], at: usize, w: Width, rule: RuleName) -> PartAnswer
         wire::view::take_or(s, n.next, n.value, past(rule))
     } else {
         PartAnswer::Refused(broken(rule, at, n.next))
+    }
+}
+
+// Takes the part behind its length at `at` where it ends with the bytes; otherwise answers `amiss`.
+pub fn closing_data(body: &[u8], at: usize, w: Width, rule: RuleName, amiss: Refusal) -> PartAnswer
+    ensures { λ r. ⌜ partSays r ≡ closeAt (Field.vector (bytesIn w) (ruleOf rule)) amiss (now (body .entry)) at ⌝ }
+{
+    let n = match wire::number::parse_be(body, at, w) {
+        NumberAnswer::Refused(_) => {
+            return PartAnswer::Refused(amiss);
+        }
+        NumberAnswer::Got(n) => n,
+    };
+    if body.len() - n.next != n.value {
+        return PartAnswer::Refused(amiss);
+    }
+    if allows(rule, n.value) {
+        PartAnswer::Got(Part {
+            view: View {
+                start: n.next,
+                len: n.value,
+            },
+            next: body.len(),
+        })
+    } else {
+        PartAnswer::Refused(amiss)
     }
 }
 

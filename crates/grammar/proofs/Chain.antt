@@ -4,14 +4,18 @@
 use Prim.Native.Nat.{ℕ}
 use mathlib.Core.Path.{_≡_, refl, sym, _∙_}
 use mathlib.Core.List.{List, [], _∷_, _++_}
-use Rattle.refusal.specs.Answers.{Answer, accepted, refused, then}
+use Rattle.refusal.specs.Answers.{Answer, accepted, refused, then, giving}
+use Rattle.refusal.specs.Refusals.{refusal}
+use Rattle.refusal.specs.declared.Reason.the-variants.{LengthValue}
 use Rattle.refusal.specs.declared.Refusal.{Refusal}
 use Rattle.wire.specs.declared.view.View.{View}
 use Rattle.wire.specs.declared.view.Part.{Part}
 use Rattle.field.specs.Fields.{step}
+use Rattle.field.specs.Closing.{closeAt}
 use Rattle.grammar.specs.Grammars.{Row, Views}
 use Rattle.grammar.specs.Reading.{fieldsAt, lastAt, withLast, read}
-use Rattle.grammar.specs.Forms.{Form, valueOf, reading}
+use Rattle.grammar.specs.Forms.{Form, outs, valueOf, reading}
+use Rattle.grammar.specs.Closed.{ClosedForm, closed}
 
 -- the whole comes down to the fields that are left, from the place reached on
 pub record So {X : Type 0} (whole : Answer X) (s : List ℕ) (rs : List Row) : Type 0 where
@@ -50,6 +54,23 @@ begin k s =
       k = λ q. accepted (valueOf k s
           (withLast (k .grammar) (q .0) (lastAt (k .grammar .block) s (q .1))));
       on = begin-on k s;
+    }
+
+pub begin-closed-on : {C : Type 0} (k : ClosedForm C) (s : List ℕ)
+    → closed k s ≡ then (fieldsAt (k .rows) s 0)
+    (λ q. giving (λ p. k .value (outs (k .rows) s (q .0)) (p .view) (p .next))
+    (closeAt (k .last) (refusal LengthValue (q .1) 0) s (q .1)))
+unfolding closed
+begin-closed-on k s = refl
+
+-- the same of a closed form; its last field is what is left in the end
+abbrev pub begin-closed : {C : Type 0} (k : ClosedForm C) (s : List ℕ) → So (closed k s) s (k .rows)
+begin-closed k s =
+    record {
+      n = 0;
+      k = λ q. giving (λ p. k .value (outs (k .rows) s (q .0)) (p .view) (p .next))
+          (closeAt (k .last) (refusal LengthValue (q .1) 0) s (q .1));
+      on = begin-closed-on k s;
     }
 
 pub and-on : {X : Type 0} {whole : Answer X} {s : List ℕ} {w : Row} {rs : List Row}

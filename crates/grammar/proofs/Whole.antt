@@ -36,13 +36,13 @@ piecesOf g s h =
     record { parts = partsOf s (g .rows) (h .views); block = blockOf s (h .block); tail = drop (h .tail) s }
 
 -- the fields, where their bytes stand at a place
-record Stand (rs : List Row) (s : List ℕ) (at : ℕ) (ps : Parts rs) (rest : List ℕ) : Type 0 where
-  found : fieldsAt rs s at ≡ accepted (viewsOf rs at ps, at + length (join rs ps))
-  behind : drop (at + length (join rs ps)) s ≡ rest
-  inside : at + length (join rs ps) ≤ length s
-  parts : partsOf s rs (viewsOf rs at ps) ≡ ps
+pub record Stand (rs : List Row) (s : List ℕ) (at : ℕ) (ps : Parts rs) (rest : List ℕ) : Type 0 where
+  pub found : fieldsAt rs s at ≡ accepted (viewsOf rs at ps, at + length (join rs ps))
+  pub behind : drop (at + length (join rs ps)) s ≡ rest
+  pub inside : at + length (join rs ps) ≤ length s
+  pub parts : partsOf s rs (viewsOf rs at ps) ≡ ps
 
-stand : (rs : List Row) (s : List ℕ) (at : ℕ) (ps : Parts rs) (rest : List ℕ) → at ≤ length s → AllObey rs ps
+pub stand : (rs : List Row) (s : List ℕ) (at : ℕ) (ps : Parts rs) (rest : List ℕ) → at ≤ length s → AllObey rs ps
     → drop at s ≡ join rs ps ++ rest → Stand rs s at ps rest
 unfolding fieldsAt join viewsOf
 stand [] s at ps rest h o e =
@@ -116,10 +116,10 @@ abbrev added : (w : Row) (rs : List Row) → View → Views rs × ℕ → Answer
 added w rs v q = accepted ((v, q .0), q .1)
 
 -- the fields that were found stand at the place
-record Have (rs : List Row) (s : List ℕ) (at : ℕ) (vs : Views rs) (n : ℕ) : Type 0 where
-  obey : AllObey rs (partsOf s rs vs)
-  bytes : drop at s ≡ join rs (partsOf s rs vs) ++ drop n s
-  inside : n ≤ length s
+pub record Have (rs : List Row) (s : List ℕ) (at : ℕ) (vs : Views rs) (n : ℕ) : Type 0 where
+  pub obey : AllObey rs (partsOf s rs vs)
+  pub bytes : drop at s ≡ join rs (partsOf s rs vs) ++ drop n s
+  pub inside : n ≤ length s
 
 have-more : (f : Field) (m : How) (rs : List Row) (s : List ℕ) (at : ℕ) (p : Part) (vs : Views rs) (n : ℕ)
     → Found f s at p → Have rs s (p .next) vs n → Have ((f, m) ∷ rs) s at (p .view, vs) n
@@ -131,7 +131,7 @@ have-more f m rs s at p vs n w i = record {
   inside = i .inside;
 }
 
-have : (rs : List Row) (s : List ℕ) (at : ℕ) (q : Views rs × ℕ) → Bytes s → at ≤ length s
+pub have : (rs : List Row) (s : List ℕ) (at : ℕ) (q : Views rs × ℕ) → Bytes s → at ≤ length s
     → fieldsAt rs s at ≡ accepted q → Have rs s at (q .0) (q .1)
 unfolding fieldsAt join
 have [] s at q b h e =
@@ -166,7 +166,7 @@ have-last (some f) s at bs h = go (step f s at) refl
         rw e (record { obey = λ p rest o d. not-both (step-of f s at p rest h o d) e; bytes = refl; inside = h })
 
 -- the refusal of the first field that the bytes lack
-refuses-of : (rs : List Row) (s : List ℕ) (at : ℕ) (r : Refusal) → at ≤ length s → FirstLacks rs at (drop at s) r
+pub refuses-of : (rs : List Row) (s : List ℕ) (at : ℕ) (r : Refusal) → at ≤ length s → FirstLacks rs at (drop at s) r
     → fieldsAt rs s at ≡ refused r
 unfolding fieldsAt
 refuses-of ((f, m) ∷ rs) s at r h (inl l) = rw (step-lacks f s at r h l)
@@ -175,7 +175,7 @@ refuses-of ((f, m) ∷ rs) s at r h (inr (p, rest, o, d, y)) =
     rw (left-of f s at p rest d) y in
     rw (step-of f s at p rest h o d, refuses-of rs s (at + length (fieldBytes f p)) r (past-in f s at p rest h d) z)
 
-lacks-of : (rs : List Row) (s : List ℕ) (at : ℕ) (r : Refusal) → Bytes s → at ≤ length s
+pub lacks-of : (rs : List Row) (s : List ℕ) (at : ℕ) (r : Refusal) → Bytes s → at ≤ length s
     → fieldsAt rs s at ≡ refused r → FirstLacks rs at (drop at s) r
 unfolding fieldsAt
 lacks-of [] s at r b h e = absurd (not-both refl e)

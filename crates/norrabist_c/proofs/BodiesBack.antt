@@ -1,12 +1,12 @@
 -- A value that was read is the one that its told lengths make. Assumes nothing.
-use Prim.Native.Nat.{ℕ, _+_, _-_, _*_, _/_, _<_}
+use Prim.Native.Nat.{ℕ, _+_, _-_, _*_, _/_, _<_, _≤_}
 use mathlib.Core.Path.{_≡_, sym, ap, ap₂, _∙_}
 use mathlib.Core.Logic.{⊎-elim}
 use mathlib.Core.Bool.{true, false}
 use mathlib.Core.List.{List}
 use native.Mathlib.Omega.{arith}
 use native.Mathlib.Nat.{mul-comm}
-use lib.ListN.{length, drop, length-append}
+use lib.ListN.{length, length-append}
 use Rattle.refusal.specs.Answers.{accepted}
 use Rattle.refusal.specs.declared.Reason.the-variants.{Incomplete}
 use Rattle.wire.specs.Numbers.{Bytes, be}
@@ -32,8 +32,8 @@ use Rattle.read_certs.proofs.Whole.{splits-certificate, splits-request, splits-
 use Rattle.read_others.specs.Body.{nextProtocol, sessionTicket}
 use Rattle.read_others.specs.declared.next_protocol.TlsNextProtocolContent.{TlsNextProtocolContent}
 use Rattle.read_others.specs.declared.ticket.TlsNewSessionTicketContent.{TlsNewSessionTicketContent}
-use Rattle.read_others.proofs.Tickets.{content}
-use Rattle.read_others.proofs.Whole.{splits-next-protocol, of-ticket}
+use Rattle.read_others.proofs.Tickets.{accepted-is}
+use Rattle.read_others.proofs.Whole.{splits-next-protocol}
 use Rattle.norrabist_c.specs.Bodies.{certificateTold, protocolTold, requestTold, statusTold, ticketTold}
 use Rattle.norrabist_c.specs.BodiesBack.{BodiesBack, ListsBack, certificateFrom, partFrom}
 use Rattle.norrabist_c.specs.BodiesBack.{protocolFrom, requestFrom, statusFrom, ticketFrom}
@@ -160,16 +160,12 @@ module _ (s : List ℕ) (b : Bytes s) where
   ticket : (n : ℕ) (c : TlsNewSessionTicketContent) → sessionTicket n s ≡ accepted c
       → c ≡ ticketFrom (ticketTold (accepted c))
   ticket n c e =
-      let o = of-ticket n s b in
-      let (f, g, h) = o .splits c e in
-      let i : length s ≡ 4 + (length (partOf s (c .ticket)) + length (drop (c .tail) s)) = ap length h
-      ∙ simp (length-append, f) in
-      let q : accepted c ≡ accepted (content n s) = sym e ∙ o .whole (omega arith) (omega arith) in
-      let d : c ≡ content n s = cc in
-      let z : n ≡ 4 + (n - 4) = omega arith in
-      rw d (ap (λ (y : ℕ). record {
+      let a = accepted-is n s e in
+      let h : 6 ≤ n = a .0 in
+      let z : n ≡ 6 + (n - 6) = omega arith in
+      rw (a .1) (ap (λ (y : ℕ). record {
         «ticket_lifetime_hint» = be 4 s 0;
-        ticket = record { start = 4; len = n - 4 };
+        ticket = record { start = 6; len = n - 6 };
         tail = y;
       }) z)
 

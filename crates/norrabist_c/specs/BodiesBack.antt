@@ -15,7 +15,7 @@ use Rattle.norrabist_c.specs.declared.{bodies.NewSessionTicketTold.NewSe
 
 -- behind the lifetime of 4 bytes
 abbrev pub ticketFrom : NewSessionTicketTold → TlsNewSessionTicketContent
-ticketFrom t = record { «ticket_lifetime_hint» = t .hint; ticket = record { start = 4; len = t .ticket }; tail = 4 + t .ticket }
+ticketFrom t = record { «ticket_lifetime_hint» = t .hint; ticket = record { start = 6; len = t .ticket }; tail = 6 + t .ticket }
 
 -- behind a length of 3 bytes
 abbrev pub certificateFrom : CertificateTold → TlsCertificateContents

@@ -3,11 +3,11 @@
 use Prim.Native.Nat.{ℕ, zero, suc, _+_, _*_, _/_, _%_, _^_, _<_, _≤_}
 use mathlib.Core.Path.{_≡_, refl, ap, ap₂, sym, _∙_}
 use mathlib.Core.Logic.{_⊎_, inl, inr}
-use mathlib.Core.List.{List, _∷_, _++_, append-assoc}
+use mathlib.Core.List.{List, [], _∷_, _++_, append-assoc}
 use native.Mathlib.Omega.{arith}
 use native.Mathlib.Nat.{pow-suc, zero-add, div-add-mod'}
 use lib.ListN.{length, getD, take, drop, length-append}
-use lib.Seq.{getD-drop, getD-at, take-suc}
+use lib.Seq.{getD-drop, getD-take, getD-at, take-suc}
 use Rattle.refusal.specs.Answers.{Answer, accepted, refused, OneResult}
 use Rattle.refusal.proofs.Told.{tells-all}
 use Rattle.refusal.proofs.Then.{not-both, then-accepted, then-refused}
@@ -33,6 +33,20 @@ pub be-drop : (w : ℕ) (s : List ℕ) (at : ℕ) → be w s at ≡ be w (drop a
 unfolding be
 be-drop zero s at = refl
 be-drop (suc w) s at = ap₂ (λ (x y : ℕ). x * 256 + y) (be-drop w s at) (simp (zero-add, getD-drop))
+
+-- the number at a place is that of the first bytes, where it stands in these
+pub be-take : (w n : ℕ) (s : List ℕ) (at : ℕ) → at + w ≤ n → be w (take n s) at ≡ be w s at
+unfolding be
+be-take zero n s at h = refl
+be-take (suc w) n s at h =
+    ap₂ (λ (x y : ℕ). x * 256 + y) (be-take w n s at (omega arith)) (getD-take n s (at + w) 0 (omega arith))
+
+-- the first of some bytes are bytes
+pub bytes-take : (n : ℕ) (s : List ℕ) → Bytes s → Bytes (take n s)
+bytes-take zero s b i = omega arith
+bytes-take (suc n) [] b i = omega arith
+bytes-take (suc n) (x ∷ s) b zero = b 0
+bytes-take (suc n) (x ∷ s) b (suc i) = bytes-take n s (λ j. b (suc j)) i
 
 -- the number of the w bytes of n is n
 pub be-of : (w n : ℕ) (rest : List ℕ) → n < 256 ^ w → be w (bytesOf w n ++ rest) 0 ≡ n

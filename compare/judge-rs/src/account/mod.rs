@@ -3,21 +3,27 @@
 //! 7.1 and 7.2 and RFC 6520 3 and 4. Where tls-parser parts from these rules, the account has both
 //! ways and a name for the difference (docs/DIFFERENCES.md), so that an answer of tls-parser is
 //! either the one to give, or the one that a named difference has, or amiss. Handshake messages
-//! are tls-parser's.
+//! are tls-parser's, but for the NewSessionTicket wherever it stands: RULES 4.2, after RFC 5077 3.3.
 //!
 //! Of the strict ClientHello, RULES 3.14, `strict.rs` is the account: RFC 5246 7.4.1.2.
 //! tls-parser's reading with three tests has to be the same.
 
+mod handshake;
 mod hello;
 mod reading;
 pub mod strict;
 #[cfg(test)]
 mod strict_tests;
+pub mod ticket;
+#[cfg(test)]
+mod ticket_tests;
 mod writing;
 
 use crate::answer;
 use crate::case::Case;
 use crate::table::*;
+use reading::Read;
+use tls_parser::{TlsMessage, TlsMessageHandshake};
 
 /// Whose way is taken where there are two.
 #[derive(Clone, Copy, PartialEq, Eq)]
@@ -45,6 +51,8 @@ pub enum Class {
     HeartbeatLength,
     /// A heartbeat's padding, which is left over there.
     HeartbeatRest,
+    /// The length of a NewSessionTicket's ticket, which is part of the ticket there.
+    TicketLength,
     /// A ChangeCipherSpec that is written as 0x14 there.
     CipherSpecWritten,
     /// An alert, which is not written there.
@@ -84,8 +92,8 @@ impl Way {
 pub fn is_kept(case: &Case) -> bool {
     let of_handshake = case.input.first() == Some(&record_type::HANDSHAKE);
     match case.function {
-        PLAINTEXT | WITH_HEADER | GEN_ANY => !of_handshake,
-        MANY | GEN_CIPHER_SPEC => true,
+        PLAINTEXT | WITH_HEADER | MANY | MESSAGE | MSG_TICKET | GEN_CIPHER_SPEC => true,
+        GEN_ANY => !of_handshake,
         MESSAGE_CIPHER_SPEC | MESSAGE_ALERT | MESSAGE_DATA | MESSAGE_HEARTBEAT => true,
         CLIENT_HELLO_STRICT | MSG_CLIENT_HELLO_STRICT => true,
         _ => false,
@@ -105,6 +113,21 @@ pub fn of(case: &Case, tls_parser: &[u64], ours: &mut Vec<u64>) -> Stands {
         Some(class) if theirs == tls_parser => Stands::Parted(class),
         _ => Stands::Amiss,
     }
+}
+
+/// Whether tls-parser's answer to a reading is another, as listed.
+pub fn is_parted(case: &Case) -> bool {
+    is_kept(case) && matches!(of(case, &answer::answer(case), &mut Vec::new()), Stands::Parted(_))
+}
+
+/// The handshake message at the front, in tls-parser's types.
+pub fn message(i: &[u8]) -> Read<'_, TlsMessage<'_>> {
+    Way::new(By::Rules).handshake(i)
+}
+
+/// The NewSessionTicket that the first `length` bytes are, likewise.
+pub fn ticket(i: &[u8], length: usize) -> Read<'_, TlsMessageHandshake<'_>> {
+    Way::new(By::Rules).ticket(i, length)
 }
 
 /// Of a record or of records that are accepted: how many messages they have, and how many bytes of

@@ -1,7 +1,7 @@
 //! The readings of which an account is kept.
 
 use super::{hello, By, Class, Way};
-use crate::answer::{refusal_of, told_by};
+use crate::answer::told_by;
 use crate::case::Case;
 use crate::made::Headed;
 use crate::table::refusal::*;
@@ -21,6 +21,8 @@ impl Way {
         match case.function {
             PLAINTEXT => told_by(to, i, self.plaintext(i)),
             MANY => told_by(to, i, self.many(i)),
+            MESSAGE => told_by(to, i, self.handshake(i)),
+            MSG_TICKET => told_by(to, i, self.ticket(i, case.length.unwrap_or(0) as usize)),
             MESSAGE_CIPHER_SPEC => told_by(to, i, self.cipher_spec(i)),
             MESSAGE_ALERT => told_by(to, i, self.alert(i)),
             MESSAGE_DATA => told_by(to, i, Ok(data(i))),
@@ -114,7 +116,7 @@ impl Way {
         match hdr.record_type.0 {
             record_type::CHANGE_CIPHER_SPEC => self.repeated(i, Way::cipher_spec),
             record_type::ALERT => self.repeated(i, Way::alert),
-            record_type::HANDSHAKE => parse_tls_record_with_header(i, hdr).map_err(|e| refusal_of(&e)),
+            record_type::HANDSHAKE => self.repeated(i, Way::handshake),
             record_type::APPLICATION_DATA if self.parts(Class::ApplicationData) => alone(Ok(data(i))),
             record_type::APPLICATION_DATA => Err(MANY1),
             // the header's length is not looked at

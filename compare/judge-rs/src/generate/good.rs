@@ -32,7 +32,7 @@ pub fn short_bodies() -> Vec<(u8, Vec<u8>)> {
         (kind::ServerHello, server(version::TLS12, &[2, 7, 8], &[0, 3, 0xaa, 0xbb, 0xcc])),
         (kind::ServerHello, server(version::SSL30, &[2, 7, 8], &[])),
         (kind::ServerHello, draft(&[0, 3, 0xaa, 0xbb, 0xcc])),
-        (kind::NewSessionTicket, hex("00000e10 aabbccdd")),
+        (kind::NewSessionTicket, hex("00000e10 0002 aabb")),
         (kind::EndOfEarlyData, hex("")),
         (kind::HelloRetryRequest, hex("7f12 1301 0003 aabbcc")),
         (kind::Certificate, counted(3, &hex("000003 aabbcc 000002 ddee"))),

@@ -5,6 +5,7 @@ mod collect;
 mod contents;
 mod damage;
 mod drawn_records;
+mod drawn_tickets;
 mod exact;
 mod good;
 mod hellos;
@@ -14,6 +15,7 @@ mod messages;
 mod others;
 mod records;
 mod rows;
+mod tickets;
 mod writes;
 
 use crate::{case::Case, domain, rng::Rng};
@@ -22,10 +24,21 @@ use std::io;
 
 type Out<'a> = &'a mut dyn FnMut(&Case) -> io::Result<()>;
 
+/// One in so many drawn readings is of a NewSessionTicket.
+const TICKETS: usize = 12;
+
 /// Hands out `many` cases of the readers; the same seed gives the same ones.
 pub fn generate(seed: u64, many: u64, out: Out) -> io::Result<()> {
-    let (good, hellos) = (good::cases(), good::hellos());
-    hand_out(fixed(), seed, many, out, |rng| chance::draw(rng, &good, &hellos))
+    let (good, hellos, messages) = (good::cases(), good::hellos(), good::short_messages());
+    // Tickets are drawn from a source of their own, so that the others are the same without them.
+    let (mut tickets, mut turn) = (Rng::new(seed.rotate_left(16)), 0);
+    hand_out(fixed(), seed, many, out, |rng| {
+        turn += 1;
+        match turn % TICKETS {
+            0 => drawn_tickets::draw(&mut tickets, &messages),
+            _ => chance::draw(rng, &good, &hellos),
+        }
+    })
 }
 
 /// Hands out `many` cases of the writers, likewise.
@@ -43,7 +56,7 @@ fn hand_out(
     seed: u64,
     many: u64,
     out: Out,
-    draw: impl Fn(&mut Rng) -> Case,
+    mut draw: impl FnMut(&mut Rng) -> Case,
 ) -> io::Result<()> {
     let many = usize::try_from(many).expect("a count of 64 bits");
     for case in fixed.iter().take(many) {
@@ -70,5 +83,6 @@ fn fixed() -> Vec<Case> {
     good::add(&mut cases);
     damage::add(&mut cases);
     exact::add(&mut cases);
+    tickets::add(&mut cases);
     cases.list
 }

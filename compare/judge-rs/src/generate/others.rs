@@ -1,5 +1,5 @@
-//! The bodies without lists: the functions with a length argument, the ticket, the status, the next
-//! protocol, the key update, the hello request.
+//! The bodies without lists: the functions with a length argument, the status, the next protocol, the
+//! key update, the hello request.
 
 use super::collect::Cases;
 use crate::bytes::{announced, hex, join, run};
@@ -7,7 +7,6 @@ use crate::table::{kind, limit, MSG_TICKET, SIZED};
 
 pub fn add(cases: &mut Cases) {
     lengths(cases);
-    tickets(cases);
     statuses(cases);
     next_protocols(cases);
     for body in ["", "00", "01", "ff", "0001", "00ff00"] {
@@ -34,17 +33,6 @@ fn lengths(cases: &mut Cases) {
         }
         let long = run(0x5a, 70_000);
         [69_999, 70_000, 70_001].into_iter().for_each(|n| cases.add_sized(name, n, &long));
-    }
-}
-
-fn tickets(cases: &mut Cases) {
-    for n in 0..=9 {
-        cases.everywhere(kind::NewSessionTicket, &hex("ff010203 0002aabbcc")[..n]);
-    }
-    cases.everywhere(kind::NewSessionTicket, &hex("ffffffff"));
-    cases.everywhere(kind::NewSessionTicket, &join(&[&[0; 4], &run(0x5a, 400)]));
-    for length in [u64::MAX - 3, u64::MAX - 4, (1 << 63) + 4, (1 << 32) + 4] {
-        cases.add_sized(MSG_TICKET, length, &hex("00000e10 aabb"));
     }
 }
 

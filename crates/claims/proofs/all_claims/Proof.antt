@@ -6,6 +6,7 @@ use Rattle.wire.proofs.Parts.{one-part}
 use Rattle.wire.proofs.Numbers.{one-number, every-width}
 use Rattle.wire.proofs.Puts.{one-write}
 use Rattle.field.specs.Fields.{fixed, sized}
+use Rattle.field.proofs.Closing.{every-closing, every-length}
 use Rattle.list.proofs.Fields.{none-more}
 use Rattle.list.proofs.Listed.{by-items}
 use Rattle.read_start.proofs.Begun.{one-start}
@@ -102,6 +103,9 @@ returns c = record {
   splitsStatus = certs.splits-status;
   splitsRetry = body.splits-retry;
   splitsNextProtocol = body.splits-next-protocol;
+  closing = every-closing;
+  closingLength = every-length;
+  splitsTicket = body.splits-ticket;
   ticket = body.of-ticket;
   splitsRecord = records.all-records;
   noRecordMore = no-record-more;
