@@ -18,7 +18,7 @@ fn answers_as_recorded() {
 
 #[test]
 fn differences_are_as_listed() {
-    replay("differences", DIFFERENCES, 49);
+    replay("differences", DIFFERENCES, 68);
 }
 
 /// How many cases there are of each function; none of them differs.

@@ -7,7 +7,7 @@ use mathlib.Core.List.{List, [], _∷_}
 use mathlib.Core.Bool.{Bool, true, false}
 use mathlib.Core.Option.{Option, none, some}
 use native.Mathlib.Omega.{arith}
-use borrow.Author.Tests.{leb-true, leb-false, eqb-true, eqb-false, lt-ltb, ltb-true, ltb-false}
+use borrow.Author.Tests.{leb-true, leb-false, eqb-true, eqb-false, eq-eqb, ne-eqb, lt-ltb, le-ltb, ltb-true}
 use lib.ListN.{length, drop}
 use lib.Dec.{leb, ltb, eqb}
 use Rattle.refusal.specs.Answers.{Answer, accepted, refused, then, giving, within, numberIn}
@@ -35,7 +35,8 @@ use Rattle.read_client.specs.Client.{client}
 use Rattle.read_server.specs.Server.{server, serverVersions, draft18}
 use Rattle.read_certs.specs.Certs.{certificate, request, certificateRequest, status}
 use Rattle.read_others.specs.Body.{retry, sessionTicket, nextProtocol}
-use Rattle.read_others.proofs.Tickets.{under-4, past-end, too-few, missing, unlike, like}
+use Rattle.read_others.proofs.Tickets.{under-4, past-end, too-few, missing, unlike, like, which}
+use Rattle.read_others.proofs.Tickets.{Which, short, past, lacking, wrong, right}
 use Rattle.message.specs.declared.handshake.TlsMessageHandshake.{TlsMessageHandshake}
 use Rattle.message.specs.declared.handshake.TlsMessageHandshake.the-variants.{ServerHello, ServerHelloV13Draft18}
 use Rattle.open_hellos.specs.HelloMessages.{serverMessage}
@@ -140,34 +141,33 @@ of-retry s = form-number retry s
 
 pub of-ticket : (n : ℕ) (s : List ℕ) → numberIn (sessionTicket n s) ≡ ticketCase n s
 unfolding ticketCase inOrder
-of-ticket n s = at-all (ltb n 4) refl
+of-ticket n s = go (which n s)
   where
-    at-last : ltb n 4 ≡ false → ltb (length s) n ≡ false → ltb n 6 ≡ false → (t : Bool) → eqb n (6 + be 2 s 4) ≡ t
-        → numberIn (sessionTicket n s) ≡ ticketCase n s
-    at-last p q r true t =
-        let e = eqb-true n (6 + be 2 s 4) t in
-        rw (p, q, r, t, like n s (ltb-false n 6 r) (ltb-false (length s) n q) (omega (arith, e)))
-    at-last p q r false t =
-        let h = ltb-false n 6 r in
-        rw (p, q, r, t, unlike n s h (ltb-false (length s) n q) (λ e. eqb-false n (6 + be 2 s 4) t (omega (arith, e))))
-        (ap numberOf (its-reason LengthValue 4 0))
-
-    at-length : ltb n 4 ≡ false → ltb (length s) n ≡ false → (t : Bool) → ltb n 6 ≡ t
-        → numberIn (sessionTicket n s) ≡ ticketCase n s
-    at-length p q true t =
-        rw (p, q, t, missing n s (ltb-false n 4 p) (ltb-true n 6 t) (ltb-false (length s) n q))
-        (ap numberOf (its-reason LengthValue 4 0))
-    at-length p q false t = at-last p q t (eqb n (6 + be 2 s 4)) refl
-
-    at-end : ltb n 4 ≡ false → (t : Bool) → ltb (length s) n ≡ t → numberIn (sessionTicket n s) ≡ ticketCase n s
-    at-end p true t =
-        rw (p, t, past-end n s (ltb-false n 4 p) (too-few n s (ltb-true (length s) n t)))
+    go : Which n s → numberIn (sessionTicket n s) ≡ ticketCase n s
+    go (short h) = rw (lt-ltb n 4 h, under-4 n s h) (ap numberOf (its-reason Verify 0 0))
+    go (past h i) =
+        rw (le-ltb n 4 h, lt-ltb (length s) n i, past-end n s h (too-few n s i))
         (ap numberOf (its-reason Incomplete 0 (n - (length s - 0))))
-    at-end p false t = at-length p t (ltb n 6) refl
-
-    at-all : (t : Bool) → ltb n 4 ≡ t → numberIn (sessionTicket n s) ≡ ticketCase n s
-    at-all true t = rw (t, under-4 n s (ltb-true n 4 t)) (ap numberOf (its-reason Verify 0 0))
-    at-all false t = at-end t (ltb (length s) n) refl
+    go (lacking h u i) =
+        rw (le-ltb n 4 h, le-ltb (length s) n i, lt-ltb n 6 u, missing n s h u i)
+        (ap numberOf (its-reason LengthValue 4 0))
+    go (wrong h i not) =
+        rw (
+          le-ltb n 4 (omega arith),
+          le-ltb (length s) n i,
+          le-ltb n 6 h,
+          ne-eqb n (6 + be 2 s 4) (λ e. not (omega (arith, e))),
+          unlike n s h i not,
+        )
+        (ap numberOf (its-reason LengthValue 4 0))
+    go (right h i q) =
+        rw (
+          le-ltb n 4 (omega arith),
+          le-ltb (length s) n i,
+          le-ltb n 6 h,
+          eq-eqb n (6 + be 2 s 4) (omega (arith, q)),
+          like n s h i q,
+        )
 
 pub of-certificate : (s : List ℕ) → numberIn (reading certificate s) ≡ certificateCase s
 unfolding certificateCase inOrder

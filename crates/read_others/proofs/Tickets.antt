@@ -87,6 +87,34 @@ like n s h i e =
     closes n s (omega arith) i
     ∙ rw (every-length 2 (ruleOf Plain) amiss (take n s) 4 .like (rw l h) (rw (l, m) e) refl, l)
 
+-- what it can be: under 4, more than the bytes, without a length, or with one that is unlike the
+-- bytes after it or like them
+pub data Which (n : ℕ) (s : List ℕ) : Type 0 where
+  short : n < 4 → Which n s
+  past : 4 ≤ n → length s < n → Which n s
+  lacking : 4 ≤ n → n < 6 → n ≤ length s → Which n s
+  wrong : 6 ≤ n → n ≤ length s → (be 2 s 4 ≡ n - 6 → ⊥) → Which n s
+  right : 6 ≤ n → n ≤ length s → be 2 s 4 ≡ n - 6 → Which n s
+
+pub which : (n : ℕ) (s : List ℕ) → Which n s
+which n s = by-four (ltb n 4) refl
+  where
+    by-length : 6 ≤ n → n ≤ length s → (t : Bool) → eqb (be 2 s 4) (n - 6) ≡ t → Which n s
+    by-length h i true q = right h i (eqb-true (be 2 s 4) (n - 6) q)
+    by-length h i false q = wrong h i (eqb-false (be 2 s 4) (n - 6) q)
+
+    by-six : 4 ≤ n → n ≤ length s → (t : Bool) → ltb n 6 ≡ t → Which n s
+    by-six h i true q = lacking h (ltb-true n 6 q) i
+    by-six h i false q = by-length (ltb-false n 6 q) i (eqb (be 2 s 4) (n - 6)) refl
+
+    by-end : 4 ≤ n → (t : Bool) → leb n (length s) ≡ t → Which n s
+    by-end h true q = by-six h (leb-true n (length s) q) (ltb n 6) refl
+    by-end h false q = past h (leb-false n (length s) q)
+
+    by-four : (t : Bool) → ltb n 4 ≡ t → Which n s
+    by-four true q = short (ltb-true n 4 q)
+    by-four false q = by-end (ltb-false n 4 q) (leb n (length s)) refl
+
 -- what was accepted was there, with a length like the bytes after it
 record Was (n : ℕ) (s : List ℕ) : Type 0 where
   six : 6 ≤ n
@@ -94,23 +122,14 @@ record Was (n : ℕ) (s : List ℕ) : Type 0 where
   alike : be 2 s 4 ≡ n - 6
 
 accepted-was : (n : ℕ) (s : List ℕ) {c : TlsNewSessionTicketContent} → sessionTicket n s ≡ accepted c → Was n s
-accepted-was n s {c} e = at-all (ltb n 4) refl
+accepted-was n s e = go (which n s)
   where
-    at-last : 6 ≤ n → n ≤ length s → (t : Bool) → eqb (be 2 s 4) (n - 6) ≡ t → Was n s
-    at-last h i true q = record { six = h; there = i; alike = eqb-true (be 2 s 4) (n - 6) q }
-    at-last h i false q = absurd (not-both e (unlike n s h i (eqb-false (be 2 s 4) (n - 6) q)))
-
-    at-length : 4 ≤ n → n ≤ length s → (t : Bool) → ltb n 6 ≡ t → Was n s
-    at-length h i true q = absurd (not-both e (missing n s h (ltb-true n 6 q) i))
-    at-length h i false q = at-last (ltb-false n 6 q) i (eqb (be 2 s 4) (n - 6)) refl
-
-    at-end : 4 ≤ n → (t : Bool) → leb n (length s) ≡ t → Was n s
-    at-end h true q = at-length h (leb-true n (length s) q) (ltb n 6) refl
-    at-end h false q = absurd (not-both e (past-end n s h (too-few n s (leb-false n (length s) q))))
-
-    at-all : (t : Bool) → ltb n 4 ≡ t → Was n s
-    at-all true q = absurd (not-both e (under-4 n s (ltb-true n 4 q)))
-    at-all false q = at-end (ltb-false n 4 q) (leb n (length s)) refl
+    go : Which n s → Was n s
+    go (short h) = absurd (not-both e (under-4 n s h))
+    go (past h i) = absurd (not-both e (past-end n s h (too-few n s i)))
+    go (lacking h u i) = absurd (not-both e (missing n s h u i))
+    go (wrong h i not) = absurd (not-both e (unlike n s h i not))
+    go (right h i q) = record { six = h; there = i; alike = q }
 
 -- and it is what is handed out
 pub accepted-is : (n : ℕ) (s : List ℕ) {c : TlsNewSessionTicketContent} → sessionTicket n s ≡ accepted c → (6 ≤ n)
