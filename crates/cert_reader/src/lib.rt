@@ -11,7 +11,7 @@ use wire::number::Width;
 use wire::view::PartAnswer;
 
 // `list` is the chain's bytes, each certificate behind its length of three bytes.
-#[derive(Drop)]
+#[derive(Clone, Copy)]
 pub struct TlsCertificateReader<'a> {
     pub list: &'a [u8],
     pub at: usize,

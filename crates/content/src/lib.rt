@@ -10,21 +10,21 @@ use wire::number::{NumberAnswer, Width};
 use wire::view::{PartAnswer, View};
 
 // An alert: its level, 1 or 2, and its description, any byte.
-#[derive(Drop)]
+#[derive(Clone, Copy)]
 pub struct TlsMessageAlert {
     pub severity: u8,
     pub code: u8,
 }
 
 // Application data: the whole content of its record.
-#[derive(Drop)]
+#[derive(Clone, Copy)]
 pub struct TlsMessageApplicationData {
     pub blob: View,
 }
 
 // A heartbeat: tls-parser's fields, and where the padding lies, which goes to the end of its
 // record.
-#[derive(Drop)]
+#[derive(Clone, Copy)]
 pub struct TlsMessageHeartbeat {
     pub heartbeat_type: u8,
     pub payload_len: u16,
@@ -34,7 +34,7 @@ pub struct TlsMessageHeartbeat {
 
 // Holds a message by the type of its record; every view in it is of the message's body, which is
 // the message itself where it is not a handshake message.
-#[derive(Drop)]
+#[derive(Clone, Copy)]
 pub enum TlsMessage {
     Handshake(TlsMessageHandshake),
     ChangeCipherSpec,
@@ -44,21 +44,21 @@ pub enum TlsMessage {
 }
 
 // Holds a message of a record of any type, or the refusal.
-#[derive(Drop)]
+#[derive(Clone, Copy)]
 pub enum TlsMessageAnswer {
     Refused(Refusal),
     Got(TlsMessage),
 }
 
 // Holds an alert, or the refusal.
-#[derive(Drop)]
+#[derive(Clone, Copy)]
 pub enum AlertAnswer {
     Refused(Refusal),
     Got(TlsMessageAlert),
 }
 
 // Holds a heartbeat, or the refusal.
-#[derive(Drop)]
+#[derive(Clone, Copy)]
 pub enum HeartbeatAnswer {
     Refused(Refusal),
     Got(TlsMessageHeartbeat),

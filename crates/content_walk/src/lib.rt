@@ -16,7 +16,7 @@ use wire::number::NumberAnswer;
 use wire::view::View;
 
 // A message that was found: the bytes that its views are of, the place past it, and the message.
-#[derive(Drop)]
+#[derive(Clone, Copy)]
 pub struct TlsFound {
     pub body: View,
     pub next: usize,
@@ -24,14 +24,14 @@ pub struct TlsFound {
 }
 
 // Holds a message that was found, or the refusal.
-#[derive(Drop)]
+#[derive(Clone, Copy)]
 pub enum FoundAnswer {
     Refused(Refusal),
     Got(TlsFound),
 }
 
 // Holds the place past a message, or the refusal.
-#[derive(Drop)]
+#[derive(Clone, Copy)]
 pub enum PastAnswer {
     Refused(Refusal),
     Got(usize),
@@ -159,7 +159,7 @@ pub fn is_single(record_type: u8) -> bool
 
 // Where the walk stands: the body of the message handed out last, empty before the first; where the
 // next message begins; and whether a message was handed out that is the whole content.
-#[derive(Drop)]
+#[derive(Clone, Copy)]
 pub struct TlsRecordWalk {
     pub record_type: u8,
     pub body: View,
@@ -168,7 +168,7 @@ pub struct TlsRecordWalk {
 }
 
 // The message, and the walk moved on; past the last message NoSuch, and the walk as it was.
-#[derive(Drop)]
+#[derive(Clone, Copy)]
 pub struct Walked {
     pub message: TlsMessageAnswer,
     pub walk: TlsRecordWalk,
@@ -276,7 +276,7 @@ pub fn past_message(record_type: u8, s: &[u8], at: usize) -> PastAnswer
 }
 
 // How many messages there are, and where the last one ends.
-#[derive(Drop)]
+#[derive(Clone, Copy)]
 pub struct Counted {
     pub count: usize,
     pub end: usize,

@@ -11,7 +11,7 @@ use wire::number::{NumberAnswer, Width};
 use wire::view::{PartAnswer, View};
 
 // The type, where the body lies, and the place past it.
-#[derive(Drop)]
+#[derive(Clone, Copy)]
 pub struct TlsMessageHead {
     pub msg_type: u8,
     pub body: View,
@@ -19,7 +19,7 @@ pub struct TlsMessageHead {
 }
 
 // Holds the head of a message, or the refusal.
-#[derive(Drop)]
+#[derive(Clone, Copy)]
 pub enum HeadAnswer {
     Refused(Refusal),
     Got(TlsMessageHead),

@@ -14,7 +14,7 @@ use wire::output::WriteAnswer;
 use wire::view::{Part, PartAnswer, View};
 
 // Names the rule that a length is held to, by what stands behind it.
-#[derive(Drop)]
+#[derive(Clone, Copy)]
 pub enum RuleName {
     Plain,
     SessionId,

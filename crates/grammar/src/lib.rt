@@ -9,7 +9,7 @@ use wire::number::Width;
 use wire::view::{OptView, PartAnswer};
 
 // A block that may be missing, and the place past it.
-#[derive(Drop)]
+#[derive(Clone, Copy)]
 pub struct OptPart {
     pub view: OptView,
     pub next: usize,

@@ -9,7 +9,7 @@ use wire::number::{NumberAnswer, Width};
 use wire::view::{PartAnswer, View};
 
 // An item that was found: its tag, where its data lies, and the place past it.
-#[derive(Drop)]
+#[derive(Clone, Copy)]
 pub struct Tagged {
     pub tag: usize,
     pub view: View,
@@ -17,7 +17,7 @@ pub struct Tagged {
 }
 
 // Holds an item with a tag, or the refusal.
-#[derive(Drop)]
+#[derive(Clone, Copy)]
 pub enum TaggedAnswer {
     Refused(Refusal),
     Got(Tagged),

@@ -9,7 +9,7 @@ use record_tally::HelloTally;
 // Of the records told: how many they are, are refused, are sealed and go on with a message begun
 // before them; their messages and dropped bytes; the hellos among the messages, and those
 // whose extensions may have been cut off.
-#[derive(Drop)]
+#[derive(Clone, Copy)]
 pub(crate) struct Sums {
     pub(crate) records: usize,
     pub(crate) refused: usize,

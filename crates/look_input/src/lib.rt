@@ -7,7 +7,7 @@ ghost use Rattle.look_input.specs.Inputs.{between, first_kind, input_kind, is_bl
 use wire::number::{NumberAnswer, Width};
 
 // What an input seems to be.
-#[derive(Drop)]
+#[derive(Clone, Copy)]
 pub enum InputKind {
     // Records one behind the other, or nothing that is known here.
     Records,

@@ -16,7 +16,7 @@ use refusal::Refusal;
 use wire::view::View;
 
 // Holds a message by its kind; every view in it is of the message's body.
-#[derive(Drop)]
+#[derive(Clone, Copy)]
 pub enum TlsMessageHandshake {
     HelloRequest,
     ClientHello(TlsClientHelloContents),
@@ -38,7 +38,7 @@ pub enum TlsMessageHandshake {
 }
 
 // Holds a message of any kind, or the refusal.
-#[derive(Drop)]
+#[derive(Clone, Copy)]
 pub enum MessageAnswer {
     Refused(Refusal),
     Got(TlsMessageHandshake),

@@ -2,7 +2,7 @@
 use wire::view::View;
 
 // Names the whole body of a ServerKeyExchange, which is not opened.
-#[derive(Drop)]
+#[derive(Clone, Copy)]
 pub struct TlsServerKeyExchangeContents {
     pub parameters: View,
 }
@@ -15,7 +15,7 @@ pub const DIFFIE_HELLMAN: usize = 1;
 pub const ELLIPTIC_CURVE: usize = 2;
 
 // Read, it is always `Unknown`, the whole body; written, it is one of the three.
-#[derive(Drop)]
+#[derive(Clone, Copy)]
 pub enum TlsClientKeyExchangeContents {
     Dh(View),
     Ecdh(View),

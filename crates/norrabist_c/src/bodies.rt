@@ -18,7 +18,7 @@ use wire::view::{OptView, PartAnswer};
 
 // What is told of a NewSessionTicket's body: lifetime, and the length of the ticket.
 #[repr(C)]
-#[derive(Drop)]
+#[derive(Clone, Copy)]
 pub struct NewSessionTicketTold {
     pub ticket: usize,
     pub hint: u32,
@@ -49,7 +49,7 @@ pub extern "C" fn norrabist_parse_tls_handshake_msg_newsessionticket(
 
 // What is told of a Certificate's body: the length of the list.
 #[repr(C)]
-#[derive(Drop)]
+#[derive(Clone, Copy)]
 pub struct CertificateTold {
     pub chain: u32,
     pub number: u8,
@@ -75,7 +75,7 @@ pub extern "C" fn norrabist_parse_tls_handshake_msg_certificate(i: &[u8]) -> Cer
 // What is told of a CertificateRequest's body: the lengths of the types, the pairs and the names,
 // and whether there are pairs, as in the long form.
 #[repr(C)]
-#[derive(Drop)]
+#[derive(Clone, Copy)]
 pub struct CertificateRequestTold {
     pub pairs: u16,
     pub names: u16,
@@ -123,7 +123,7 @@ pub extern "C" fn norrabist_parse_tls_handshake_certificaterequest(
 
 // What is told of a CertificateStatus's body: its type, and the length of the response.
 #[repr(C)]
-#[derive(Drop)]
+#[derive(Clone, Copy)]
 pub struct CertificateStatusTold {
     pub blob: u32,
     pub status_type: u8,
@@ -151,7 +151,7 @@ pub extern "C" fn norrabist_parse_tls_handshake_certificatestatus(i: &[u8]) -> C
 
 // What is told of a NextProtocol's body: the lengths of the protocol and the padding.
 #[repr(C)]
-#[derive(Drop)]
+#[derive(Clone, Copy)]
 pub struct NextProtocolTold {
     pub protocol: u8,
     pub padding: u8,
@@ -179,7 +179,7 @@ pub extern "C" fn norrabist_parse_tls_handshake_next_protocol(i: &[u8]) -> NextP
 
 // What is told of a KeyUpdate's body: its one byte.
 #[repr(C)]
-#[derive(Drop)]
+#[derive(Clone, Copy)]
 pub struct KeyUpdateTold {
     pub request: u8,
     pub number: u8,

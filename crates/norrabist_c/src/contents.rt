@@ -21,7 +21,7 @@ pub extern "C" fn norrabist_parse_tls_message_changecipherspec(i: &[u8]) -> u8
 
 // What is told of an alert, which has two bytes.
 #[repr(C)]
-#[derive(Drop)]
+#[derive(Clone, Copy)]
 pub struct AlertTold {
     pub severity: u8,
     pub code: u8,
@@ -50,7 +50,7 @@ pub extern "C" fn norrabist_parse_tls_message_alert(i: &[u8]) -> AlertTold
 // What is told of a heartbeat: the length of the payload, which begins at byte 3, and the type. The
 // padding is what stands behind the payload.
 #[repr(C)]
-#[derive(Drop)]
+#[derive(Clone, Copy)]
 pub struct HeartbeatTold {
     pub payload: u16,
     pub heartbeat_type: u8,

@@ -14,7 +14,7 @@ use read_ext::{TlsExtensionAnswer, TlsExtensionsAnswer};
 // the number is 0, these are all its extensions; where it is LengthValue, the first bad item has
 // that index.
 #[repr(C)]
-#[derive(Drop)]
+#[derive(Clone, Copy)]
 pub struct ExtensionsTold {
     pub items: usize,
     pub number: u8,
@@ -37,7 +37,7 @@ pub extern "C" fn norrabist_parse_tls_extensions(block: &[u8]) -> ExtensionsTold
 // What is told of an extension: its type, and where its content begins and how long it is. The next
 // one begins where the content ends.
 #[repr(C)]
-#[derive(Drop)]
+#[derive(Clone, Copy)]
 pub struct ExtensionTold {
     pub start: usize,
     pub ext_type: u16,
@@ -93,7 +93,7 @@ pub extern "C" fn norrabist_extension_at(block: &[u8], place: usize) -> Extensio
 // What is told of a server name: where it begins in the list, its length and its type. The next
 // one begins where it ends.
 #[repr(C)]
-#[derive(Drop)]
+#[derive(Clone, Copy)]
 pub struct ServerNameTold {
     pub start: usize,
     pub len: u16,

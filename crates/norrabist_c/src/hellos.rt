@@ -20,7 +20,7 @@ use wire::number::{NumberAnswer, Width};
 // What is told of a ClientHello's body: the version, and the lengths of the id, ciphers, methods
 // and extensions.
 #[repr(C)]
-#[derive(Drop)]
+#[derive(Clone, Copy)]
 pub struct ClientHelloTold {
     pub version: u16,
     pub ciphers: u16,
@@ -90,7 +90,7 @@ pub extern "C" fn norrabist_parse_tls_handshake_client_hello_strict(i: &[u8]) ->
 // What is told of a ServerHello's body: version, cipher and method, and the lengths of the id and
 // the extensions. That of draft 18 has neither id nor method.
 #[repr(C)]
-#[derive(Drop)]
+#[derive(Clone, Copy)]
 pub struct ServerHelloTold {
     pub version: u16,
     pub cipher: u16,
@@ -203,7 +203,7 @@ pub extern "C" fn norrabist_parse_tls_handshake_msg_server_hello(i: &[u8]) -> Se
 
 // What is told of a HelloRetryRequest's body: version, cipher and the length of the extensions.
 #[repr(C)]
-#[derive(Drop)]
+#[derive(Clone, Copy)]
 pub struct HelloRetryRequestTold {
     pub version: u16,
     pub cipher: u16,

@@ -10,7 +10,7 @@ use wire::view::PartAnswer;
 // What is told of an item behind its length: where it begins in the list, and its length. The next
 // one begins where it ends.
 #[repr(C)]
-#[derive(Drop)]
+#[derive(Clone, Copy)]
 pub struct ItemTold {
     pub start: usize,
     pub len: u32,
@@ -58,7 +58,7 @@ pub extern "C" fn norrabist_name_at(list: &[u8], at: usize) -> ItemTold
 
 // What is told of an item that is a number of two bytes.
 #[repr(C)]
-#[derive(Drop)]
+#[derive(Clone, Copy)]
 pub struct NumberTold {
     pub value: u16,
     pub number: u8,

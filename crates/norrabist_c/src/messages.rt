@@ -53,7 +53,7 @@ pub fn listed_head(s: &[u8], at: usize) -> HeadAnswer
 // What is told of a message's head: where the next message begins, the length of the body, which
 // ends there, and the type.
 #[repr(C)]
-#[derive(Drop)]
+#[derive(Clone, Copy)]
 pub struct MessageHeadTold {
     pub next: usize,
     pub body: u32,
@@ -85,7 +85,7 @@ pub extern "C" fn norrabist_parse_tls_message_head(s: &[u8], at: usize) -> Messa
 
 // What is told of messages: how many there are, and where the last one ends.
 #[repr(C)]
-#[derive(Drop)]
+#[derive(Clone, Copy)]
 pub struct TallyTold {
     pub count: usize,
     pub end: usize,

@@ -5,7 +5,7 @@ ghost use Rattle.norrabist_c.specs.Parts.{opt_told};
 use wire::view::OptView;
 
 // Whether a part is there, and its length.
-#[derive(Drop)]
+#[derive(Clone, Copy)]
 pub struct OptTold {
     pub len: usize,
     pub present: bool,

@@ -18,7 +18,7 @@ use wire::view::View;
 // What is told of a record's header: version, length of the content, which begins at byte 5, and
 // type.
 #[repr(C)]
-#[derive(Drop)]
+#[derive(Clone, Copy)]
 pub struct RecordHeadTold {
     pub version: u16,
     pub len: u16,
@@ -72,7 +72,7 @@ pub extern "C" fn norrabist_parse_tls_raw_record(i: &[u8]) -> RecordHeadTold
 // byte 5, and its type; of a handshake record also length and type of the first message, whose body
 // begins at byte 9, else 0.
 #[repr(C)]
-#[derive(Drop)]
+#[derive(Clone, Copy)]
 pub struct PlaintextHeadTold {
     pub version: u16,
     pub len: u16,
@@ -164,7 +164,7 @@ pub extern "C" fn norrabist_parse_tls_plaintext(i: &[u8]) -> PlaintextHeadTold
 
 // What is told of a record's content: of handshake messages length and type of the first, else 0.
 #[repr(C)]
-#[derive(Drop)]
+#[derive(Clone, Copy)]
 pub struct ContentHeadTold {
     pub body: u32,
     pub msg_type: u8,
@@ -197,7 +197,7 @@ pub extern "C" fn norrabist_parse_tls_record_with_header(
 // What is told of joined records: how many there are, and where reading stopped; 0 and 0 where the
 // first is refused.
 #[repr(C)]
-#[derive(Drop)]
+#[derive(Clone, Copy)]
 pub struct RecordsTold {
     pub count: usize,
     pub end: usize,

@@ -28,7 +28,7 @@ use wire::number::NumberAnswer;
 
 // What a refusal carries, by the table's number; 0 where nothing is refused.
 #[repr(C)]
-#[derive(Drop)]
+#[derive(Clone, Copy)]
 pub struct RefusalTold {
     pub number: u8,
 }

@@ -20,7 +20,7 @@ use write_rules::TextAnswer;
 // Holds the table's number (RULES 1.1), and how many bytes the text has: those that were written,
 // or that NoRoom asks for; 0 where none may be written.
 #[repr(C)]
-#[derive(Drop)]
+#[derive(Clone, Copy)]
 pub struct Wrote {
     pub count: usize,
     pub number: u8,

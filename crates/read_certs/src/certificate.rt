@@ -13,14 +13,14 @@ use wire::view::{PartAnswer, View};
 
 // Holds a Certificate: the chain's bytes, each certificate behind its length, and where the tail
 // begins.
-#[derive(Drop)]
+#[derive(Clone, Copy)]
 pub struct TlsCertificateContents {
     pub cert_chain: View,
     pub tail: usize,
 }
 
 // Holds the contents of a Certificate, or the refusal.
-#[derive(Drop)]
+#[derive(Clone, Copy)]
 pub enum CertificateAnswer {
     Refused(Refusal),
     Got(TlsCertificateContents),

@@ -14,7 +14,7 @@ use wire::number::{NumberAnswer, Width};
 use wire::view::{OptView, PartAnswer, View};
 
 // Holds a CertificateRequest: the lists' bytes, and where the tail begins.
-#[derive(Drop)]
+#[derive(Clone, Copy)]
 pub struct TlsCertificateRequestContents {
     pub cert_types: View,
     pub sig_hash_algs: OptView,
@@ -23,7 +23,7 @@ pub struct TlsCertificateRequestContents {
 }
 
 // Holds the contents of a CertificateRequest, or the refusal.
-#[derive(Drop)]
+#[derive(Clone, Copy)]
 pub enum CertificateRequestAnswer {
     Refused(Refusal),
     Got(TlsCertificateRequestContents),

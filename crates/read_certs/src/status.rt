@@ -9,7 +9,7 @@ use wire::number::{NumberAnswer, Width};
 use wire::view::{PartAnswer, View};
 
 // Holds a CertificateStatus: tls-parser's fields, and where the tail begins.
-#[derive(Drop)]
+#[derive(Clone, Copy)]
 pub struct TlsCertificateStatusContents {
     pub status_type: u8,
     pub blob: View,
@@ -17,7 +17,7 @@ pub struct TlsCertificateStatusContents {
 }
 
 // Holds the contents of a CertificateStatus, or the refusal.
-#[derive(Drop)]
+#[derive(Clone, Copy)]
 pub enum CertificateStatusAnswer {
     Refused(Refusal),
     Got(TlsCertificateStatusContents),

@@ -21,7 +21,7 @@ use wire::number::{NumberAnswer, Width};
 use wire::view::{OptView, PartAnswer, View};
 
 // Holds a ClientHello: tls-parser's fields, and where the tail begins.
-#[derive(Drop)]
+#[derive(Clone, Copy)]
 pub struct TlsClientHelloContents {
     pub version: u16,
     pub random: View,
@@ -33,14 +33,14 @@ pub struct TlsClientHelloContents {
 }
 
 // Holds the contents of a ClientHello, or the refusal.
-#[derive(Drop)]
+#[derive(Clone, Copy)]
 pub enum ClientHelloAnswer {
     Refused(Refusal),
     Got(TlsClientHelloContents),
 }
 
 // Whether a ClientHello is exact (RULES 3.14), or the first of the three that keeps it from that.
-#[derive(Drop)]
+#[derive(Clone, Copy)]
 pub enum Exactness {
     Exact,
     NoCiphers,

@@ -22,7 +22,7 @@ pub mod names;
 
 // How far items reach: how many there are up to the first that cannot be had, and where the last of
 // them ends.
-#[derive(Drop)]
+#[derive(Clone, Copy)]
 pub struct Reach {
     pub count: usize,
     pub end: usize,
@@ -30,7 +30,7 @@ pub struct Reach {
 
 // An extension. Views are of the block: of server names and groups the list without its length, of
 // another type the data.
-#[derive(Drop)]
+#[derive(Clone, Copy)]
 pub enum TlsExtension {
     SNI(View),
     MaxFragmentLength(u8),
@@ -40,7 +40,7 @@ pub enum TlsExtension {
 
 // An extension that was found: its type, where its content lies, the place past it, and itself. The
 // content of server names and groups is the list, that of a fragment length its byte.
-#[derive(Drop)]
+#[derive(Clone, Copy)]
 pub struct TlsExtensionFound {
     pub ext_type: u16,
     pub content: View,
@@ -49,7 +49,7 @@ pub struct TlsExtensionFound {
 }
 
 // Why a block is refused: the index of the first item that cannot be had, from 0, and the refusal.
-#[derive(Drop)]
+#[derive(Clone, Copy)]
 pub struct Damage {
     pub index: usize,
     pub refusal: Refusal,
@@ -59,14 +59,14 @@ pub struct Damage {
 // sends that extension with no data, the bytes 00 00 00 00 (RFC 6066 3), which is refused here: the
 // hello itself was read, and who wants the other extensions of a ServerHello takes the index for
 // the place of that one, and reads the bytes before and behind these four as blocks of their own.
-#[derive(Drop)]
+#[derive(Clone, Copy)]
 pub enum TlsExtensionsAnswer {
     Damaged(Damage),
     Got(usize),
 }
 
 // Holds an extension, or what is wrong with the block, or the refusal where there is none.
-#[derive(Drop)]
+#[derive(Clone, Copy)]
 pub enum TlsExtensionAnswer {
     Damaged(Damage),
     Refused(Refusal),

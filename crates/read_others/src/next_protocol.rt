@@ -9,7 +9,7 @@ use wire::number::Width;
 use wire::view::{PartAnswer, View};
 
 // Holds a NextProtocol: tls-parser's fields, and where the tail begins.
-#[derive(Drop)]
+#[derive(Clone, Copy)]
 pub struct TlsNextProtocolContent {
     pub selected_protocol: View,
     pub padding: View,
@@ -17,7 +17,7 @@ pub struct TlsNextProtocolContent {
 }
 
 // Holds the contents of a NextProtocol, or the refusal.
-#[derive(Drop)]
+#[derive(Clone, Copy)]
 pub enum NextProtocolAnswer {
     Refused(Refusal),
     Got(TlsNextProtocolContent),

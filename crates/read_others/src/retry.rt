@@ -9,7 +9,7 @@ use wire::number::{NumberAnswer, Width};
 use wire::view::OptView;
 
 // Holds a HelloRetryRequest: tls-parser's fields, and where the tail begins.
-#[derive(Drop)]
+#[derive(Clone, Copy)]
 pub struct TlsHelloRetryRequestContents {
     pub version: u16,
     pub cipher: u16,
@@ -18,7 +18,7 @@ pub struct TlsHelloRetryRequestContents {
 }
 
 // Holds the contents of a HelloRetryRequest, or the refusal.
-#[derive(Drop)]
+#[derive(Clone, Copy)]
 pub enum HelloRetryRequestAnswer {
     Refused(Refusal),
     Got(TlsHelloRetryRequestContents),

@@ -8,7 +8,7 @@ use wire::number::{NumberAnswer, Width};
 use wire::view::{PartAnswer, View};
 
 // Holds a NewSessionTicket: tls-parser's fields, and where the tail begins.
-#[derive(Drop)]
+#[derive(Clone, Copy)]
 pub struct TlsNewSessionTicketContent {
     pub ticket_lifetime_hint: u32,
     pub ticket: View,
@@ -16,7 +16,7 @@ pub struct TlsNewSessionTicketContent {
 }
 
 // Holds the contents of a NewSessionTicket, or the refusal.
-#[derive(Drop)]
+#[derive(Clone, Copy)]
 pub enum NewSessionTicketAnswer {
     Refused(Refusal),
     Got(TlsNewSessionTicketContent),

@@ -15,7 +15,7 @@ use wire::number::{NumberAnswer, Width};
 use wire::view::{OptView, View};
 
 // Holds a ServerHello: tls-parser's fields, and where the tail begins.
-#[derive(Drop)]
+#[derive(Clone, Copy)]
 pub struct TlsServerHelloContents {
     pub version: u16,
     pub random: View,
@@ -27,7 +27,7 @@ pub struct TlsServerHelloContents {
 }
 
 // Holds the contents of a ServerHello, or the refusal.
-#[derive(Drop)]
+#[derive(Clone, Copy)]
 pub enum ServerHelloAnswer {
     Refused(Refusal),
     Got(TlsServerHelloContents),

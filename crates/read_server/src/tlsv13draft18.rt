@@ -11,7 +11,7 @@ use wire::number::{NumberAnswer, Width};
 use wire::view::{OptView, PartAnswer, View};
 
 // Holds a ServerHello of draft 18: tls-parser's fields, and where the tail begins.
-#[derive(Drop)]
+#[derive(Clone, Copy)]
 pub struct TlsServerHelloV13Draft18Contents {
     pub version: u16,
     pub random: View,
@@ -21,7 +21,7 @@ pub struct TlsServerHelloV13Draft18Contents {
 }
 
 // Holds the contents of a draft 18 ServerHello, or the refusal.
-#[derive(Drop)]
+#[derive(Clone, Copy)]
 pub enum Draft18Answer {
     Refused(Refusal),
     Got(TlsServerHelloV13Draft18Contents),

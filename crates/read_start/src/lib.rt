@@ -10,7 +10,7 @@ use wire::number::{NumberAnswer, Width};
 use wire::view::{OptView, PartAnswer, View};
 
 // Holds version, random and session id of a hello, and the place behind them.
-#[derive(Drop)]
+#[derive(Clone, Copy)]
 pub struct Start {
     pub version: u16,
     pub random: View,
@@ -19,7 +19,7 @@ pub struct Start {
 }
 
 // Holds what a hello begins with, or the refusal.
-#[derive(Drop)]
+#[derive(Clone, Copy)]
 pub enum StartAnswer {
     Refused(Refusal),
     Got(Start),

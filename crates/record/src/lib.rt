@@ -9,7 +9,7 @@ use wire::number::{NumberAnswer, Width};
 use wire::view::{PartAnswer, View};
 
 // Holds type, version and length of a record, its first five bytes.
-#[derive(Drop)]
+#[derive(Clone, Copy)]
 pub struct TlsRecordHeader {
     pub record_type: u8,
     pub version: u16,
@@ -17,14 +17,14 @@ pub struct TlsRecordHeader {
 }
 
 // Holds the header of a record, or the refusal.
-#[derive(Drop)]
+#[derive(Clone, Copy)]
 pub enum RecordHeaderAnswer {
     Refused(Refusal),
     Got(TlsRecordHeader),
 }
 
 // tls-parser's fields, and where the next record begins.
-#[derive(Drop)]
+#[derive(Clone, Copy)]
 pub struct TlsRawRecord {
     pub hdr: TlsRecordHeader,
     pub data: View,
@@ -32,20 +32,20 @@ pub struct TlsRawRecord {
 }
 
 // Holds a record whose content is not opened, or the refusal.
-#[derive(Drop)]
+#[derive(Clone, Copy)]
 pub enum RawRecordAnswer {
     Refused(Refusal),
     Got(TlsRawRecord),
 }
 
 // Names the content of an encrypted record.
-#[derive(Drop)]
+#[derive(Clone, Copy)]
 pub struct TlsEncryptedContent {
     pub blob: View,
 }
 
 // tls-parser's fields, and where the next record begins.
-#[derive(Drop)]
+#[derive(Clone, Copy)]
 pub struct TlsEncrypted {
     pub hdr: TlsRecordHeader,
     pub msg: TlsEncryptedContent,
@@ -53,7 +53,7 @@ pub struct TlsEncrypted {
 }
 
 // Holds an encrypted record, or the refusal.
-#[derive(Drop)]
+#[derive(Clone, Copy)]
 pub enum EncryptedAnswer {
     Refused(Refusal),
     Got(TlsEncrypted),

@@ -60,7 +60,7 @@ fn messages_in(s: &[u8], r: TlsRawRecord) -> usize
 
 // How many whole records there are up to the first that is refused, how many messages they hold,
 // and where the last of them ends.
-#[derive(Drop)]
+#[derive(Clone, Copy)]
 pub struct RecordTally {
     pub records: usize,
     pub messages: usize,

@@ -46,14 +46,14 @@ fn past_record(s: &[u8], at: usize) -> PastAnswer
 }
 
 // How many records there are up to the first that is refused, and where the last of them ends.
-#[derive(Drop)]
+#[derive(Clone, Copy)]
 pub struct TlsRecords {
     pub count: usize,
     pub end: usize,
 }
 
 // Holds what joined records come to, or the refusal of the first.
-#[derive(Drop)]
+#[derive(Clone, Copy)]
 pub enum ManyAnswer {
     Refused(Refusal),
     Got(TlsRecords),
@@ -90,13 +90,13 @@ pub fn tls_parser_many(i: &[u8]) -> ManyAnswer
 }
 
 // Where the walk stands: at the byte where the next record begins.
-#[derive(Drop)]
+#[derive(Clone, Copy)]
 pub struct TlsRecordsWalk {
     pub next: usize,
 }
 
 // The record, and the walk moved on; past the last record NoSuch, and the walk as it was.
-#[derive(Drop)]
+#[derive(Clone, Copy)]
 pub struct RecordWalked {
     pub record: PlaintextAnswer,
     pub walk: TlsRecordsWalk,

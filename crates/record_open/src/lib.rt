@@ -14,7 +14,7 @@ use wire::view::View;
 // tls-parser's header; its messages as the bytes that hold them, which a `TlsRecordWalk` goes over,
 // with their number; how many bytes at the end of those hold none; and where the next record
 // begins.
-#[derive(Drop)]
+#[derive(Clone, Copy)]
 pub struct TlsPlaintext {
     pub hdr: TlsRecordHeader,
     pub msg: View,
@@ -24,7 +24,7 @@ pub struct TlsPlaintext {
 }
 
 // Holds a record with its counts, or the refusal.
-#[derive(Drop)]
+#[derive(Clone, Copy)]
 pub enum PlaintextAnswer {
     Refused(Refusal),
     Got(TlsPlaintext),
@@ -32,7 +32,7 @@ pub enum PlaintextAnswer {
 
 // A record, and its first message, opened; the message's views are of `body`, which is a view of
 // the record's content.
-#[derive(Drop)]
+#[derive(Clone, Copy)]
 pub struct TlsPlaintextOpened {
     pub record: TlsPlaintext,
     pub body: View,
@@ -40,7 +40,7 @@ pub struct TlsPlaintextOpened {
 }
 
 // Holds a record with its first message, or the refusal.
-#[derive(Drop)]
+#[derive(Clone, Copy)]
 pub enum OpenedAnswer {
     Refused(Refusal),
     Got(TlsPlaintextOpened),

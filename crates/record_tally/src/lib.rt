@@ -10,7 +10,7 @@ use wire::view::OptView;
 
 // How many messages are ClientHellos, how many ServerHellos, and how many hellos have no extensions
 // and a tail: a block of extensions may have been cut off.
-#[derive(Drop)]
+#[derive(Clone, Copy)]
 pub struct HelloTally {
     pub clients: usize,
     pub servers: usize,

@@ -13,14 +13,14 @@ use wire::view::View;
 
 // Where the walk stands: the body of the message handed out last, empty before the first, and where
 // the next message begins.
-#[derive(Drop)]
+#[derive(Clone, Copy)]
 pub struct TlsHandshakeWalk {
     pub body: View,
     pub next: usize,
 }
 
 // The message, and the walk moved on; past the last message NoSuch, and the walk as it was.
-#[derive(Drop)]
+#[derive(Clone, Copy)]
 pub struct Walked {
     pub message: MessageAnswer,
     pub walk: TlsHandshakeWalk,
@@ -108,7 +108,7 @@ pub fn meet_tls_message(s: &[u8], at: usize) -> HeadAnswer
 }
 
 // How many messages there are, where the last one ends, and why there is none behind it.
-#[derive(Drop)]
+#[derive(Clone, Copy)]
 pub struct Tally {
     pub count: usize,
     pub end: usize,

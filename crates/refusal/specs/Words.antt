@@ -5,4 +5,3 @@
 pub use Rattle.std.specs.Prelude.{ℕ, ◌+◌, ◌-◌, zero, suc, ◌*◌, ◌/◌, ◌%◌, ◌^◌, ◌<◌, ◌≤◌, ◌≡◌, Bool, true, false, ◌||◌, ◌&&◌, length, take, drop, get_or, replicate, leb, eqb, ltb, ◌⊎◌}
 pub use Rattle.std.proofs.Math.Option.{Option, none, some}
 pub use mathlib.Core.List.{List, [], ◌∷◌, ◌++◌, map, foldl, foldr}
-pub use Rattle.std.specs.Borrow.{Bor, MutBor}

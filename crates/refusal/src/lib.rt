@@ -1,10 +1,12 @@
 // Why a call is refused: the table of RULES 1.1 as one type, and the only place where a refusal is
 // made.
+#![tactic(auto)]
+
 ghost use Rattle.std.specs.Prelude.{◌≡◌};
 ghost use Rattle.refusal.specs.Refusals.{inside, number_of, refusal, unplaced};
 
 // Why a call is refused: rows 1 to 12 of RULES 1.1, in their order; there is no 10.
-#[derive(Drop)]
+#[derive(Clone, Copy)]
 pub enum Reason {
     Incomplete,
     Complete,
@@ -20,7 +22,7 @@ pub enum Reason {
 }
 
 // What a refusal carries: its reason alone.
-#[derive(Drop)]
+#[derive(Clone, Copy)]
 pub struct Refusal {
     pub reason: Reason,
 }

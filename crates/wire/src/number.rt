@@ -8,7 +8,7 @@ use crate::view::PartAnswer;
 use refusal::{Reason, Refusal};
 
 // How many bytes a number has.
-#[derive(Drop)]
+#[derive(Clone, Copy)]
 pub enum Width {
     One,
     Two,
@@ -17,14 +17,14 @@ pub enum Width {
 }
 
 // A number that was found, and the place past it.
-#[derive(Drop)]
+#[derive(Clone, Copy)]
 pub struct Number {
     pub value: usize,
     pub next: usize,
 }
 
 // Holds a number with the place behind it, or the refusal.
-#[derive(Drop)]
+#[derive(Clone, Copy)]
 pub enum NumberAnswer {
     Refused(Refusal),
     Got(Number),

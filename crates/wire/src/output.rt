@@ -8,7 +8,7 @@ use crate::view::PartAnswer;
 use refusal::{Reason, Refusal};
 
 // The place past what was written, or why nothing was.
-#[derive(Drop)]
+#[derive(Clone, Copy)]
 pub enum WriteAnswer {
     Refused(Refusal),
     Wrote(usize),

@@ -5,28 +5,28 @@ ghost use Rattle.wire.specs.Parts.{opt_part_of, part_at, part_of, part_says};
 use refusal::{Reason, Refusal};
 
 // `len` bytes from `start` on.
-#[derive(Drop)]
+#[derive(Clone, Copy)]
 pub struct View {
     pub start: usize,
     pub len: usize,
 }
 
 // A part that may be missing.
-#[derive(Drop)]
+#[derive(Clone, Copy)]
 pub enum OptView {
     Absent,
     Present(View),
 }
 
 // A part that was found, and the place past it.
-#[derive(Drop)]
+#[derive(Clone, Copy)]
 pub struct Part {
     pub view: View,
     pub next: usize,
 }
 
 // Holds a part with the place behind it, or the refusal.
-#[derive(Drop)]
+#[derive(Clone, Copy)]
 pub enum PartAnswer {
     Refused(Refusal),
     Got(Part),

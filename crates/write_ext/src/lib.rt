@@ -23,7 +23,7 @@ use write_rules::TextAnswer;
 pub mod rows;
 
 // How many bytes a text has, or why none may be written.
-#[derive(Drop)]
+#[derive(Clone, Copy)]
 pub enum LengthAnswer {
     Refused(Refusal),
     Got(usize),

@@ -19,7 +19,7 @@ use write_rules::TextAnswer;
 pub const ROW: usize = 10;
 
 // A row that was found, and the place past it.
-#[derive(Drop)]
+#[derive(Clone, Copy)]
 pub struct Row {
     pub ext_type: u16,
     pub content: View,
@@ -27,7 +27,7 @@ pub struct Row {
 }
 
 // Holds a row, or the refusal where there is none.
-#[derive(Drop)]
+#[derive(Clone, Copy)]
 pub enum RowAnswer {
     Refused(Refusal),
     Got(Row),

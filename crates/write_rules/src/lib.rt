@@ -13,7 +13,7 @@ use wire::output::WriteAnswer;
 use wire::view::{OptView, PartAnswer, View};
 
 // What writing a text came to, and how many bytes the text has: 0 where none may be written.
-#[derive(Drop)]
+#[derive(Clone, Copy)]
 pub struct TextAnswer {
     pub answer: WriteAnswer,
     pub len: usize,

@@ -1,0 +1,17 @@
+-- `wire::output::put_bytes` meets its contract: the buffer is the one lent with the bytes so far
+-- put in. Assumes nothing.
+use Prim.Native.Nat.{◌-◌, ◌≤◌}
+use mathlib.Core.Path.{◌≡◌, refl, sym}
+use native.Mathlib.Omega.{arith}
+use borrow.Author.Rules.{rules}
+use lib.ListN.{length, take, length-set}
+use lib.Seq.{take_all}
+use Rattle.wire.specs.Puts.{put}
+use Rattle.wire.proofs.Puts.{put_nil, copy_next}
+use Rattle.wire.proofs.output.put_bytes.Given as goal
+
+abbrev pub invariant-loop-k : goal.invariant-loop-k
+invariant-loop-k l = (l.k ≤ length l.src) × (l.out ≡ put l.initial.out l.at (take l.k l.src)) × (length l.out ≡ length l.initial.out)
+
+abbrev pub decreases-loop-k : goal.decreases-loop-k
+decreases-loop-k l = length l.src - l.k
