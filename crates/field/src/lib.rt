@@ -1,4 +1,6 @@
 // A fixed part, and a part behind its length by the rule of what it is, read and written.
+#![tactic(auto)]
+
 ghost use Rattle.std.specs.Prelude.{◌≡◌, false, List, ℕ};
 ghost use Rattle.refusal.specs.Answers.{Answer};
 ghost use Rattle.wire.specs.Numbers.{bytes_in};

@@ -63,6 +63,7 @@ one_unfilled : (rs : List Row) (ts : ToFill rs) (at : ℕ) (ps : Parts rs) (n : 
 one_unfilled ((f, m) ∷ rs) (t, ts) at (p, ps) n (inl (u, e)) = rw (is_unfilled t p u, e)
 one_unfilled ((f, m) ∷ rs) (t, ts) at (p, ps) n (inr (not, y)) =
     rw (is_filled t p not) (one_unfilled rs ts (at + length (field_bytes f p)) ps n y)
+one_unfilled [] ts at ps n x' = elim x' [ ]
 
 abbrev Decided : (rs : List Row) → ToFill rs → ℕ → Parts rs → Type 0
 Decided rs ts at ps = AllFilled rs ts ps ⊎ ((n : ℕ) × FirstUnfilled rs ts at ps n)

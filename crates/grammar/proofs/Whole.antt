@@ -83,6 +83,7 @@ last_of (some f) s at none tail bs h o d =
         let w = step_back f s at bs e in
         absurd (o (part_of s q.view) (drop q.next s) w.obeys (sym d ∙ w.bytes))
     go (refused r) e = rw (e, add-zero)
+last_of none s at (some p) tail bs h o d = elim o [ ]
 
 module _ (g : Grammar) (s : List ℕ) (b : Bytes s) where
   -- a body that splits
@@ -174,6 +175,7 @@ refuses_of ((f, m) ∷ rs) s at r h (inr (p, rest, o, d, y)) =
     let z : FirstLacks rs (at + length (field_bytes f p)) (drop (at + length (field_bytes f p)) s) r =
     rw (left_of f s at p rest d) y in
     rw (step_of f s at p rest h o d, refuses_of rs s (at + length (field_bytes f p)) r (past_in f s at p rest h d) z)
+refuses_of [] s at r h x'' = elim x'' [ ]
 
 pub lacks_of : (rs : List Row) (s : List ℕ) (at : ℕ) (r : Refusal) → Bytes s → at ≤ length s
     → fields_at rs s at ≡ refused r → FirstLacks rs at (drop at s) r

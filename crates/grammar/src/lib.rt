@@ -1,4 +1,6 @@
 // The optional last block of a grammar, read.
+#![tactic(auto)]
+
 ghost use Rattle.std.specs.Prelude.{◌≡◌};
 ghost use Rattle.wire.specs.Numbers.{bytes_in};
 ghost use Rattle.field.specs.Fields.{Field, rule_of};

@@ -1,5 +1,7 @@
 // Lists: how many items there are, the item at a place, and the place to go on from. A list is lent
 // as its own bytes, without its length.
+#![tactic(auto)]
+
 pub mod items;
 pub mod numbers;
 pub mod tagged;
