@@ -1,6 +1,8 @@
 // RULES 10.6: the certificates of a chain one after the other, by a reader with the lent list and
 // its place in it. The prover covers no function over such a struct: each is thin, proved by hand,
 // and leaves the work to a function of plain parameters.
+#![tactic(auto)]
+
 ghost use Rattle.std.specs.Prelude.{◌≡◌};
 ghost use Rattle.cert_reader.specs.Chain.{at_front, cert_of, moved_on_of, past_or};
 ghost use Rattle.field.specs.Fields.{sized};

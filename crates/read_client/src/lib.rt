@@ -1,5 +1,7 @@
 // The ClientHello (RULES 3.2), the strict one (RULES 3.14), and what tls-parser's trait of that
 // name hands out of it.
+#![tactic(auto)]
+
 ghost use Rattle.std.specs.Prelude.{◌≡◌, drop, length};
 ghost use Rattle.field.specs.Fields.{Field};
 ghost use Rattle.grammar.specs.Demand3.{BySplit};

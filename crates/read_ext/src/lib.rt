@@ -1,6 +1,8 @@
 // An extension block (RULES 11): how many extensions it has, the one at a place, and the walk over
 // them. A block is lent as its own bytes, without its length. Of a damaged block nothing is handed
 // out but the index of its first bad item.
+#![tactic(auto)]
+
 ghost use Rattle.std.specs.Prelude.{◌≡◌, ℕ, ◌+◌, ◌^◌, ◌<◌, ◌≤◌, length};
 ghost use Rattle.list.specs.Items.{place};
 ghost use Rattle.list.specs.Tagged.{fit_at, tagged_says, TaggedBelow};

@@ -1,4 +1,6 @@
 // The other bodies that hold fields: HelloRetryRequest, NewSessionTicket, NextProtocol.
+#![tactic(auto)]
+
 pub mod next_protocol;
 pub mod retry;
 pub mod ticket;

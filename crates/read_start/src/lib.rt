@@ -1,5 +1,7 @@
 // What a ClientHello and a ServerHello begin with: version, random and session id (RFC 5246
 // 7.4.1.2, 7.4.1.3).
+#![tactic(auto)]
+
 ghost use Rattle.std.specs.Prelude.{◌≡◌};
 ghost use Rattle.grammar.specs.Forms.{absent_if_empty, reading};
 ghost use Rattle.read_start.specs.Start.{hello_start, start_says};

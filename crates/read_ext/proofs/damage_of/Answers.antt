@@ -1,0 +1,6 @@
+-- `read_ext::damage_of` meets its contract: the count, and the refusal at the end. Assumes nothing.
+use borrow.Author.Rules.{rules}
+use Rattle.read_ext.proofs.damage_of.Goals as goal
+
+pub returns : goal.returns
+returns c = rw c.refuse.ensures

@@ -1,0 +1,22 @@
+-- `read_ext::extension_of` meets its contract: the type decides. Assumes nothing.
+use borrow.Author.Tests.{ne_eqb}
+use Rattle.read_ext.specs.Extensions.{extension_of}
+use borrow.Author.Rules.{rules}
+use Rattle.read_ext.proofs.extension_of.Goals as goal
+
+pub returns-in-0 : goal.returns-in-0
+unfolding extension_of
+returns-in-0 c = rw c.in-0.is
+
+pub returns-in-1 : goal.returns-in-1
+unfolding extension_of
+returns-in-1 c = rw (c.in-1.is, c.number_there.ensures.value)
+
+pub returns-in-10 : goal.returns-in-10
+unfolding extension_of
+returns-in-10 c = rw c.in-10.is
+
+pub returns-in_default : goal.returns-in_default
+unfolding extension_of
+returns-in_default c =
+    rw (ne_eqb _ 0 c.in_default.in_default-own.rest.0.0.1, ne_eqb _ 1 c.in_default.in_default-own.rest.0.1, ne_eqb _ 10 c.in_default.in_default-own.rest.1)
