@@ -25,8 +25,7 @@ use Rattle.open_whole.specs.Whole.{whole_body}
 use Rattle.envelope.specs.Opening.{by_type, openings, opened}
 use Rattle.envelope.proofs.Whole.{whole_body_lem}
 use Rattle.record_walk.specs.Walks.{OpensAny}
-use Rattle.record_walk.proofs.opens_any.Statement.{statement}
-use Rattle.record_walk.proofs.opens_any.Tie as tie
+use Rattle.record_walk.proofs.opens_any.Goals as goal
 
 -- the types that stand alone
 lone : (k : ℕ) → (k ≡ 0x00) ⊎ ((k ≡ 0x05) ⊎ ((k ≡ 0x0c) ⊎ (k ≡ 0x14))) → OpensAny k
@@ -87,20 +86,19 @@ module _ (k : ℕ) (lacks : (k ≡ 0x00) ⊎ ((k ≡ 0x05) ⊎ ((k ≡ 0x0c) ⊎
 no : false ≡ true → ⊥
 no e = let z : ◌≡◌ {A = ℕ} 0 1 = cc in omega arith
 
-returns : tie.Need-returns
-returns c = (λ e. absurd (no e), λ o. absurd (shut _ c.before.match.rest.1 (inl (omega arith)) o))
+pub returns-in_default : goal.returns-in_default
+returns-in_default c =
+    (λ e. absurd (no e), λ o. absurd (shut _ c.in_default.in_default-own.rest.1 (inl (omega arith)) o))
 
-returns-2 : tie.Need-returns-2
-returns-2 c = (λ e. absurd (no e), λ o. absurd (shut _ c.before.before.match.rest.1 (inr (omega arith)) o))
+pub returns-in_default-2 : goal.returns-in_default-2
+returns-in_default-2 c =
+    (λ e. absurd (no e), λ o. absurd (shut _ c.in_default.in_default-own.rest.1 (inr (omega arith)) o))
 
-returns-3 : tie.Need-returns-3
-returns-3 c = (λ e. lone _ c.match.keys1, λ o. refl)
+pub returns-in-0 : goal.returns-in-0
+returns-in-0 c = (λ e. lone _ c.in-0.in-0-own.keys1, λ o. refl)
 
-returns-4 : tie.Need-returns-4
-returns-4 c =
-    let k = c.before.before.before.args.msg-type in
+pub returns-in-0-2 : goal.returns-in-0-2
+returns-in-0-2 c =
+    let k = c.args.msg_type in
     let d : k ≡ 0x0e + (k - 0x0e) = omega arith in
     (λ e. rw d (ranged (k - 0x0e) (omega arith)), λ o. refl)
-
-pub opens_any_spec : {M : Type 1} → statement M
-opens_any_spec = tie.close (tie.spec returns returns-2 returns-3 returns-4)
