@@ -11,21 +11,14 @@ use Rattle.list.proofs.Walk.{rest_all, rest_on, rest_end}
 use Rattle.record.specs.Records.{raw_says}
 use Rattle.record.specs.declared.TlsRawRecord.{TlsRawRecord}
 use Rattle.record_joined.specs.Joined.{record_from, records, messages_in, tallied}
-use Rattle.record_joined.proofs.Joined.{left, by_records, from_lies, few_messages}
+use Rattle.record_joined.proofs.Joined.{message_sum, past_records, left, by_records, from_lies, few_messages}
 use Rattle.record_joined.proofs.count_records.Goals as goal
-
--- the messages of records, and the place past them, the first beginning at a place
-abbrev sum : List ℕ → List TlsRawRecord → ℕ
-sum s rs = foldr (λ (r : TlsRawRecord) n. messages_in s r + n) 0 rs
-
-abbrev past : List TlsRawRecord → ℕ → ℕ
-past rs at = foldl (λ (at : ℕ) (r : TlsRawRecord). r.next) at rs
 
 pub loop-r-init : goal.loop-r-init
 loop-r-init c =
     let s = c.args.s.now in
     let e : records s ≡ left s 0 = rest_all (record_from s) (λ (r : TlsRawRecord). r.next) (length s) in
-    (omega arith, omega arith, omega (arith, ap length e), omega (arith, ap (sum s) e), ap (λ rs. past rs 0) e)
+    (omega arith, omega arith, omega (arith, ap length e), omega (arith, ap (message_sum s) e), ap (λ rs. past_records rs 0) e)
 
 pub returns-in-Refused : goal.returns-in-Refused
 unfolding tallied
@@ -34,8 +27,8 @@ returns-in-Refused c =
     let z = rest_end (by_records _) c.loop-r.end e in
     let i = c.loop-r.invariant in
     let n : c.loop-r.records ≡ length (records c.args.s.now) = sym (i.2 ∙ rw z (omega arith)) in
-    let m : c.loop-r.messages ≡ sum _ (records c.args.s.now) = sym (i.3 ∙ rw z (omega arith)) in
-    let p : c.loop-r.end ≡ past (records c.args.s.now) 0 = sym (i.4 ∙ rw z) in
+    let m : c.loop-r.messages ≡ message_sum _ (records c.args.s.now) = sym (i.3 ∙ rw z (omega arith)) in
+    let p : c.loop-r.end ≡ past_records (records c.args.s.now) 0 = sym (i.4 ∙ rw z) in
     rw (n, m, p)
 
 pub overflow_add-messages : goal.overflow_add-messages

@@ -2,7 +2,7 @@
 -- records. Assumes nothing.
 use Prim.Native.Nat.{ℕ, ◌+◌, ◌-◌, ◌≤◌}
 use mathlib.Core.Path.{◌≡◌, sym, ap, ◌∙◌}
-use mathlib.Core.List.{List, foldl, foldr, sum}
+use mathlib.Core.List.{List, foldl, foldr}
 use native.Mathlib.Omega.{arith}
 use borrow.Author.Rules.{rules}
 use lib.ListN.{length}
@@ -11,13 +11,13 @@ use Rattle.list.proofs.Walk.{rest_all, rest_on, rest_end}
 use Rattle.record.specs.Records.{raw_says}
 use Rattle.record.specs.declared.TlsRawRecord.{TlsRawRecord}
 use Rattle.record_joined.specs.Joined.{record_from, records, messages_in, tallied}
-use Rattle.record_joined.proofs.Joined.{left, by_records, from_lies, few_messages}
+use Rattle.record_joined.proofs.Joined.{message_sum, past_records, left, by_records, from_lies, few_messages}
 use Rattle.record_joined.proofs.count_records.Given as goal
 
 abbrev pub invariant-loop-r : goal.invariant-loop-r
 invariant-loop-r l = (l.records ≤ l.end) × (l.messages ≤ l.end) × (length (records l.s) ≡ l.records + length (left l.s l.end))
-    × (sum l.s (records l.s) ≡ l.messages + sum l.s (left l.s l.end))
-    × (past (records l.s) 0 ≡ past (left l.s l.end) l.end)
+    × (message_sum l.s (records l.s) ≡ l.messages + message_sum l.s (left l.s l.end))
+    × (past_records (records l.s) 0 ≡ past_records (left l.s l.end) l.end)
 
 abbrev pub decreases-loop-r : goal.decreases-loop-r
 decreases-loop-r l = length l.s - l.end
