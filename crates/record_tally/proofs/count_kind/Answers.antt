@@ -1,4 +1,5 @@
 -- `record_tally::count_kind` meets its contract, case by case. Assumes nothing.
+use borrow.Enum.Refused.{opened}
 use mathlib.Core.Path.{sym}
 use Rattle.record_tally.specs.Tally.{count_of}
 use Rattle.record_tally.proofs.Tally.{others}
@@ -23,4 +24,4 @@ unfolding count_of
 returns-in-HelloRetryRequest c = rw (c.in-HelloRetryRequest.is, c.cut_off-in-HelloRetryRequest.ensures)
 
 pub returns-in_default : goal.returns-in_default
-returns-in_default c = sym (others c.args.m c.args.len c.in_default.in_default-own.keys5)
+returns-in_default c = sym (others c.args.m c.args.len (opened c.in_default.in_default-own.keys5))
