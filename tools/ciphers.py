@@ -25,7 +25,10 @@ HEAD = """\
 // rust/src/ciphers/rows.rs. A row is a part behind its length of one byte: the number, two bytes,
 // and the name.
 use crate::ciphers::find;
+use std::io::{self, Write};
 """
+# what each function is handed, and what it hands back
+PARAMETERS = "to: &mut impl Write, n: usize) -> io::Result<()>"
 
 
 def pages(rows):
@@ -44,14 +47,14 @@ def page(place, rows):
     """The function of a page."""
     items = [f"\\x{2 + len(name):02x}\\x{number[:2]}\\x{number[2:]}{name}" for number, name in rows]
     text = "\\\n          ".join(items)
-    return f'fn page_{place}(n: usize) {{\n    find(\n        b"{text}",\n        n,\n    );\n}}\n'
+    return f'fn page_{place}({PARAMETERS} {{\n    find(\n        to,\n        b"{text}",\n        n,\n    )\n}}\n'
 
 
 def choice(firsts, low, high, indent):
     """The page of a number, by halves."""
     blank = "    " * indent
     if high - low == 1:
-        return f"{blank}page_{low}(n);\n"
+        return f"{blank}page_{low}(to, n)\n"
     middle = (low + high) // 2
     return (
         f"{blank}if n < 0x{firsts[middle]} {{\n{choice(firsts, low, middle, indent + 1)}"
@@ -66,7 +69,7 @@ def text(rows):
     firsts = [rows[0][0] for rows in found]
     last = (
         "// The name of the cipher suite `n`, behind a blank; nothing where there is none.\n"
-        f"pub(crate) fn say_name(n: usize) {{\n{choice(firsts, 0, len(found), 1)}}}\n"
+        f"pub(crate) fn say_name({PARAMETERS} {{\n{choice(firsts, 0, len(found), 1)}}}\n"
     )
     return "\n".join([HEAD, *functions, last])
 

@@ -5,38 +5,45 @@ use norrabist::{
     OptView, TlsClientHelloContents, TlsClientKeyExchangeContents, TlsRecordHeader,
     TlsServerHelloContents, TlsServerHelloV13Draft18Contents, View, WriteAnswer,
 };
+use std::io::{self, Write};
 
 // More than the longest hello: the length of every output, which is lent as 0xaa, and of the source
 // of every part.
 const MOST: usize = 131_500;
 
 // How many bytes are not 0xaa.
-fn say_others(out: &[u8]) {
+fn say_others(to: &mut impl Write, out: &[u8]) -> io::Result<()> {
     let mut n: usize = 0;
     for k in 0..out.len() {
         if out[k] != 0xaa {
             n = n + 1;
         }
     }
-    say_number(n);
+    say_number(to, n)
 }
 
-fn say_answer(room: usize, a: WriteAnswer, out: &[u8; MOST]) {
-    say(b" room");
-    say_number(room);
-    say(b":");
+fn say_answer(
+    to: &mut impl Write,
+    room: usize,
+    a: WriteAnswer,
+    out: &[u8; MOST],
+) -> io::Result<()> {
+    say(to, b" room")?;
+    say_number(to, room)?;
+    say(to, b":")?;
     match a {
-        WriteAnswer::Refused(r) => say_number(norrabist::refusal_number(r) as usize),
+        WriteAnswer::Refused(r) => say_number(to, norrabist::refusal_number(r) as usize)?,
         WriteAnswer::Wrote(n) => {
-            say(b" 0");
-            say_number(n);
+            say(to, b" 0")?;
+            say_number(to, n)?;
         }
     }
-    say_others(out);
-    say(b"\n");
+    say_others(to, out)?;
+    say(to, b"\n")
 }
 
 fn client(
+    to: &mut impl Write,
     random: usize,
     id: usize,
     ciphers: usize,
@@ -45,13 +52,13 @@ fn client(
     room: usize,
     s: &[u8],
     mut out: [u8; MOST],
-) {
-    say(b"gen_tls_clienthello");
-    say_number(random);
-    say_number(id);
-    say_number(ciphers);
-    say_number(comp);
-    say_number(ext);
+) -> io::Result<()> {
+    say(to, b"gen_tls_clienthello")?;
+    say_number(to, random)?;
+    say_number(to, id)?;
+    say_number(to, ciphers)?;
+    say_number(to, comp)?;
+    say_number(to, ext)?;
     let random = View {
         start: 0,
         len: random,
@@ -77,15 +84,24 @@ fn client(
     };
     if room <= MOST {
         let a = norrabist::gen_tls_clienthello(m, s, &mut out[..room]);
-        say_answer(room, a, &out);
+        say_answer(to, room, a, &out)?;
     }
+    Ok(())
 }
 
-fn server(random: usize, id: usize, ext: usize, room: usize, s: &[u8], mut out: [u8; MOST]) {
-    say(b"gen_tls_serverhello");
-    say_number(random);
-    say_number(id);
-    say_number(ext);
+fn server(
+    to: &mut impl Write,
+    random: usize,
+    id: usize,
+    ext: usize,
+    room: usize,
+    s: &[u8],
+    mut out: [u8; MOST],
+) -> io::Result<()> {
+    say(to, b"gen_tls_serverhello")?;
+    say_number(to, random)?;
+    say_number(to, id)?;
+    say_number(to, ext)?;
     let random = View {
         start: 0,
         len: random,
@@ -103,14 +119,22 @@ fn server(random: usize, id: usize, ext: usize, room: usize, s: &[u8], mut out: 
     };
     if room <= MOST {
         let a = norrabist::gen_tls_serverhello(m, s, &mut out[..room]);
-        say_answer(room, a, &out);
+        say_answer(to, room, a, &out)?;
     }
+    Ok(())
 }
 
-fn draft18(random: usize, ext: usize, room: usize, s: &[u8], mut out: [u8; MOST]) {
-    say(b"gen_tls_serverhellodraft18");
-    say_number(random);
-    say_number(ext);
+fn draft18(
+    to: &mut impl Write,
+    random: usize,
+    ext: usize,
+    room: usize,
+    s: &[u8],
+    mut out: [u8; MOST],
+) -> io::Result<()> {
+    say(to, b"gen_tls_serverhellodraft18")?;
+    say_number(to, random)?;
+    say_number(to, ext)?;
     let random = View {
         start: 0,
         len: random,
@@ -125,91 +149,110 @@ fn draft18(random: usize, ext: usize, room: usize, s: &[u8], mut out: [u8; MOST]
     };
     if room <= MOST {
         let a = norrabist::gen_tls_serverhellodraft18(m, s, &mut out[..room]);
-        say_answer(room, a, &out);
+        say_answer(to, room, a, &out)?;
     }
+    Ok(())
 }
 
 fn exchange(
+    to: &mut impl Write,
     name: &[u8],
     m: TlsClientKeyExchangeContents,
     room: usize,
     s: &[u8],
     mut out: [u8; MOST],
-) {
-    say(b"gen_tls_clientkeyexchange ");
-    say(name);
+) -> io::Result<()> {
+    say(to, b"gen_tls_clientkeyexchange ")?;
+    say(to, name)?;
     if room <= MOST {
         let a = norrabist::gen_tls_clientkeyexchange(m, s, &mut out[..room]);
-        say_answer(room, a, &out);
+        say_answer(to, room, a, &out)?;
     }
+    Ok(())
 }
 
-fn finished(start: usize, len: usize, room: usize, s: &[u8], mut out: [u8; MOST]) {
-    say(b"gen_tls_finished");
-    say_number(start);
-    say_number(len);
+fn finished(
+    to: &mut impl Write,
+    start: usize,
+    len: usize,
+    room: usize,
+    s: &[u8],
+    mut out: [u8; MOST],
+) -> io::Result<()> {
+    say(to, b"gen_tls_finished")?;
+    say_number(to, start)?;
+    say_number(to, len)?;
     if room <= MOST {
         let a = norrabist::gen_tls_finished(View { start, len }, s, &mut out[..room]);
-        say_answer(room, a, &out);
+        say_answer(to, room, a, &out)?;
     }
+    Ok(())
 }
 
-fn request(room: usize, mut out: [u8; MOST]) {
-    say(b"gen_tls_hellorequest");
+fn request(to: &mut impl Write, room: usize, mut out: [u8; MOST]) -> io::Result<()> {
+    say(to, b"gen_tls_hellorequest")?;
     if room <= MOST {
         let a = norrabist::gen_tls_hellorequest(&mut out[..room]);
-        say_answer(room, a, &out);
+        say_answer(to, room, a, &out)?;
     }
+    Ok(())
 }
 
-fn plaintext(len: usize, room: usize, s: &[u8], mut out: [u8; MOST]) {
+fn plaintext(
+    to: &mut impl Write,
+    len: usize,
+    room: usize,
+    s: &[u8],
+    mut out: [u8; MOST],
+) -> io::Result<()> {
     let hdr = TlsRecordHeader {
         record_type: 0x16,
         version: 0x0303,
         len: 0xffff,
     };
-    say(b"gen_tls_plaintext");
-    say_number(len);
+    say(to, b"gen_tls_plaintext")?;
+    say_number(to, len)?;
     if len <= s.len() && room <= MOST {
         let a = norrabist::gen_tls_plaintext(hdr, &s[..len], &mut out[..room]);
-        say_answer(room, a, &out);
+        say_answer(to, room, a, &out)?;
     }
+    Ok(())
 }
 
-fn clients(s: &[u8], out: [u8; MOST]) {
-    client(32, 0, 0, 0, 0, 44, s, out);
-    client(32, 0, 0, 0, 0, 43, s, out);
-    client(32, 32, 65_534, 255, 65_535, 131_400, s, out);
-    client(32, 32, 65_534, 255, 65_535, 131_399, s, out);
+fn clients(to: &mut impl Write, s: &[u8], out: [u8; MOST]) -> io::Result<()> {
+    client(to, 32, 0, 0, 0, 0, 44, s, out)?;
+    client(to, 32, 0, 0, 0, 0, 43, s, out)?;
+    client(to, 32, 32, 65_534, 255, 65_535, 131_400, s, out)?;
+    client(to, 32, 32, 65_534, 255, 65_535, 131_399, s, out)
 }
 
-fn clients_refused(s: &[u8], out: [u8; MOST]) {
-    client(31, 0, 0, 0, 0, MOST, s, out);
-    client(33, 0, 0, 0, 0, MOST, s, out);
-    client(32, 33, 0, 0, 0, MOST, s, out);
-    client(32, 0, 1, 0, 0, MOST, s, out);
-    client(32, 0, 65_536, 0, 0, MOST, s, out);
-    client(32, 0, 0, 256, 0, MOST, s, out);
-    client(32, 0, 0, 0, 65_536, 0, s, out);
+fn clients_refused(to: &mut impl Write, s: &[u8], out: [u8; MOST]) -> io::Result<()> {
+    client(to, 31, 0, 0, 0, 0, MOST, s, out)?;
+    client(to, 33, 0, 0, 0, 0, MOST, s, out)?;
+    client(to, 32, 33, 0, 0, 0, MOST, s, out)?;
+    client(to, 32, 0, 1, 0, 0, MOST, s, out)?;
+    client(to, 32, 0, 65_536, 0, 0, MOST, s, out)?;
+    client(to, 32, 0, 0, 256, 0, MOST, s, out)?;
+    client(to, 32, 0, 0, 0, 65_536, 0, s, out)
 }
 
-fn servers(s: &[u8], out: [u8; MOST]) {
-    server(32, 32, 65_535, 65_611, s, out);
-    server(32, 32, 65_535, 65_610, s, out);
-    server(32, 33, 0, 0, s, out);
-    server(0, 0, 0, MOST, s, out);
-    server(32, 0, 65_536, MOST, s, out);
+fn servers(to: &mut impl Write, s: &[u8], out: [u8; MOST]) -> io::Result<()> {
+    server(to, 32, 32, 65_535, 65_611, s, out)?;
+    server(to, 32, 32, 65_535, 65_610, s, out)?;
+    server(to, 32, 33, 0, 0, s, out)?;
+    server(to, 0, 0, 0, MOST, s, out)?;
+    server(to, 32, 0, 65_536, MOST, s, out)
 }
 
-fn drafts(s: &[u8], out: [u8; MOST]) {
-    draft18(32, 65_535, 65_577, s, out);
-    draft18(32, 65_535, 65_576, s, out);
-    draft18(32, 65_536, MOST, s, out);
-    draft18(31, 0, MOST, s, out);
-    draft18(33, 0, MOST, s, out);
+fn drafts(to: &mut impl Write, s: &[u8], out: [u8; MOST]) -> io::Result<()> {
+    draft18(to, 32, 65_535, 65_577, s, out)?;
+    draft18(to, 32, 65_535, 65_576, s, out)?;
+    draft18(to, 32, 65_536, MOST, s, out)?;
+    draft18(to, 31, 0, MOST, s, out)?;
+    draft18(to, 33, 0, MOST, s, out)
 }
 
-fn exchanges(s: &[u8], out: [u8; MOST]) {
+fn exchanges(to: &mut impl Write, s: &[u8], out: [u8; MOST]) -> io::Result<()> {
     let raw = TlsClientKeyExchangeContents::Unknown(View {
         start: 0,
         len: 131_400,
@@ -224,39 +267,39 @@ fn exchanges(s: &[u8], out: [u8; MOST]) {
     });
     let ecdh = TlsClientKeyExchangeContents::Ecdh(View { start: 0, len: 255 });
     let ecdh_past = TlsClientKeyExchangeContents::Ecdh(View { start: 0, len: 256 });
-    exchange(b"raw 131,400", raw, 131_404, s, out);
-    exchange(b"raw 131,400", raw, 131_403, s, out);
-    exchange(b"DH 65,535", dh, 65_541, s, out);
-    exchange(b"DH 65,536", dh_past, MOST, s, out);
-    exchange(b"ECDH 255", ecdh, 260, s, out);
-    exchange(b"ECDH 256", ecdh_past, 0, s, out);
+    exchange(to, b"raw 131,400", raw, 131_404, s, out)?;
+    exchange(to, b"raw 131,400", raw, 131_403, s, out)?;
+    exchange(to, b"DH 65,535", dh, 65_541, s, out)?;
+    exchange(to, b"DH 65,536", dh_past, MOST, s, out)?;
+    exchange(to, b"ECDH 255", ecdh, 260, s, out)?;
+    exchange(to, b"ECDH 256", ecdh_past, 0, s, out)
 }
 
-fn parts(s: &[u8], out: [u8; MOST]) {
-    finished(0, MOST, 0, s, out);
-    finished(1, MOST, MOST, s, out);
-    finished(MOST, 0, 4, s, out);
-    finished(12, 12, 16, s, out);
-    request(4, out);
-    request(3, out);
+fn parts(to: &mut impl Write, s: &[u8], out: [u8; MOST]) -> io::Result<()> {
+    finished(to, 0, MOST, 0, s, out)?;
+    finished(to, 1, MOST, MOST, s, out)?;
+    finished(to, MOST, 0, 4, s, out)?;
+    finished(to, 12, 12, 16, s, out)?;
+    request(to, 4, out)?;
+    request(to, 3, out)
 }
 
-fn records(s: &[u8], out: [u8; MOST]) {
-    plaintext(0, 5, s, out);
-    plaintext(0, 4, s, out);
-    plaintext(16_640, 16_645, s, out);
-    plaintext(16_640, 16_644, s, out);
-    plaintext(16_641, 0, s, out);
+fn records(to: &mut impl Write, s: &[u8], out: [u8; MOST]) -> io::Result<()> {
+    plaintext(to, 0, 5, s, out)?;
+    plaintext(to, 0, 4, s, out)?;
+    plaintext(to, 16_640, 16_645, s, out)?;
+    plaintext(to, 16_640, 16_644, s, out)?;
+    plaintext(to, 16_641, 0, s, out)
 }
 
-pub(crate) fn all() {
+pub(crate) fn all(to: &mut impl Write) -> io::Result<()> {
     let s = [0u8; MOST];
     let out = [0xaau8; MOST];
-    clients(&s, out);
-    clients_refused(&s, out);
-    servers(&s, out);
-    drafts(&s, out);
-    exchanges(&s, out);
-    parts(&s, out);
-    records(&s, out);
+    clients(to, &s, out)?;
+    clients_refused(to, &s, out)?;
+    servers(to, &s, out)?;
+    drafts(to, &s, out)?;
+    exchanges(to, &s, out)?;
+    parts(to, &s, out)?;
+    records(to, &s, out)
 }

@@ -1,54 +1,54 @@
 // What the lines are made of.
-use libc::STDOUT_FILENO;
 use norrabist::{OptView, Refusal};
+use std::io::{self, Write};
 
-pub(crate) fn text(text: &[u8]) {
-    io::write_all(STDOUT_FILENO, text);
+pub(crate) fn text(to: &mut impl Write, text: &[u8]) -> io::Result<()> {
+    to.write_all(text)
 }
 
-pub(crate) fn number(n: usize) {
-    io::print_decimal(STDOUT_FILENO, n as u64);
+pub(crate) fn number(to: &mut impl Write, n: usize) -> io::Result<()> {
+    write!(to, "{n}")
 }
 
-pub(crate) fn bytes(n: usize) {
-    number(n);
+pub(crate) fn bytes(to: &mut impl Write, n: usize) -> io::Result<()> {
+    number(to, n)?;
     if n == 1 {
-        text(b" byte");
+        text(to, b" byte")
     } else {
-        text(b" bytes");
+        text(to, b" bytes")
     }
 }
 
-pub(crate) fn hex(name: &[u8], n: usize, digits: usize) {
-    text(name);
-    io::print_hex(STDOUT_FILENO, n as u64, digits);
+pub(crate) fn hex(to: &mut impl Write, name: &[u8], n: usize, digits: usize) -> io::Result<()> {
+    text(to, name)?;
+    write!(to, "{n:0digits$x}")
 }
 
 // A refusal is its number alone.
-pub(crate) fn refused(r: Refusal) {
-    text(b"refused ");
-    number(norrabist::refusal_number(r) as usize);
-    text(b"\n");
+pub(crate) fn refused(to: &mut impl Write, r: Refusal) -> io::Result<()> {
+    text(to, b"refused ")?;
+    number(to, norrabist::refusal_number(r) as usize)?;
+    text(to, b"\n")
 }
 
-pub(crate) fn opt(name: &[u8], v: OptView) {
-    text(name);
+pub(crate) fn opt(to: &mut impl Write, name: &[u8], v: OptView) -> io::Result<()> {
+    text(to, name)?;
     match v {
-        OptView::Absent => text(b" absent"),
+        OptView::Absent => text(to, b" absent"),
         OptView::Present(p) => {
-            text(b" present, ");
-            bytes(p.len);
+            text(to, b" present, ")?;
+            bytes(to, p.len)
         }
     }
 }
 
 // How every line begins: the row's number, what the input is read as, the input in RULES 8's
 // notation.
-pub(crate) fn row(number: &[u8], what: &[u8], input: &[u8]) {
-    text(number);
-    text(b" ");
-    text(what);
-    text(b" ");
-    text(input);
-    text(b": ");
+pub(crate) fn row(to: &mut impl Write, number: &[u8], what: &[u8], input: &[u8]) -> io::Result<()> {
+    text(to, number)?;
+    text(to, b" ")?;
+    text(to, what)?;
+    text(to, b" ")?;
+    text(to, input)?;
+    text(to, b": ")
 }

@@ -1,5 +1,7 @@
 // What a record holds: one type for the messages of every record type, and the readers of those
 // that are not handshake messages (RFC 5246 7.1, 7.2 and 10, RFC 6520 4).
+#![tactic(auto)]
+
 ghost use Rattle.std.specs.Prelude.{◌≡◌};
 ghost use Rattle.wire.specs.Numbers.{number_says};
 ghost use Rattle.content.specs.Contents.{alert_at, alert_first, alert_says, application_data, change_cipher_spec_of, cipher_spec_at, content_says, heartbeat, heartbeat_in, heartbeat_of, heartbeat_says, one_or_two};

@@ -1,4 +1,6 @@
 // A handshake message: its head, what its type opens, and both.
+#![tactic(auto)]
+
 ghost use Rattle.std.specs.Prelude.{◌≡◌};
 ghost use Rattle.envelope.specs.Opening.{head_at, head_says, by_type, message, opened};
 ghost use Rattle.message.specs.Messages.{message_says};

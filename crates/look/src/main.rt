@@ -3,15 +3,15 @@
 // and what it holds of a record that goes on is carried over into the next. Each place is counted
 // from the front of the input. A refusal is told by its name and number, and so is what is not
 // read. docs/LOOK.md has every line.
+#![tactic(auto)]
+
 mod alerts;
 mod bodies;
 mod ciphers;
 mod contents;
-mod ext_names;
-mod extensions;
-mod groups;
 mod hellos;
 mod hints;
+mod input;
 mod lists;
 mod messages;
 mod names;
@@ -28,11 +28,11 @@ ghost use Rattle.std.specs.Prelude.{◌≡◌, drop};
 ghost use Rattle.wire.specs.Parts.{part_of};
 ghost use Rattle.look.specs.Sums.{record_sums};
 
-use libc::STDIN_FILENO;
 use look_input::InputKind;
 use record::{RawRecordAnswer, TlsRawRecord};
 use record_open::PlaintextAnswer;
 use say::text;
+use std::io::{self, Write};
 use wire::view::{View, part_of, rest_of};
 
 // The bytes of a window. A whole record has at most 16,645.
@@ -72,35 +72,43 @@ fn sums_of(r: TlsRawRecord, s: &[u8], at: usize, sealed: bool, passed: usize) ->
 
 // The end of the output: what is left at `place`, how many bytes of a message are owed, and the
 // summary.
-fn say_end(all: sums::Sums, left: &[u8], place: usize, owed: usize) {
+fn say_end(
+    to: &mut impl Write,
+    all: sums::Sums,
+    left: &[u8],
+    place: usize,
+    owed: usize,
+) -> io::Result<()> {
     let read = std::num::wrapping_add_usize(place, left.len());
     if read == 0 {
-        text(b"the input is empty: there is no record\n");
+        text(to, b"the input is empty: there is no record\n")?;
     }
-    records::say_left(left, place);
-    records::say_owed(owed);
-    sums::say_sums(all, read, left.len());
+    records::say_left(to, left, place)?;
+    records::say_owed(to, owed)?;
+    sums::say_sums(to, all, read, left.len())
 }
 
-fn main() {
+fn main(rt: HostRuntime) -> io::Result<()> {
+    let mut stdin = rt.stdin();
+    let mut stdout = rt.stdout();
+    let to = &mut stdout;
     let mut window = [0u8; WINDOW];
-    let mut have = io::read_full(STDIN_FILENO, &mut window);
+    let mut have = input::read_full(&mut stdin, &mut window)?;
     let kind = look_input::input_kind(&window[..have]);
     let InputKind::Records = kind else {
-        hints::say_hint(kind);
-        return;
+        return hints::say_hint(to, kind);
     };
     let mut all = sums::none();
     let mut place: usize = 0;
     let mut at: usize = 0;
     let mut owed: usize = 0;
     let mut after = false;
-    for turn in 0..u64::MAX {
+    for _ in 0..u64::MAX {
         let s = filled(&window, have);
         if let RawRecordAnswer::Got(r) = record_joined::record_from(s, at) {
             let sealed = sealed::is_sealed(r, after);
             let passed = owed::passed_over(r, owed);
-            records::say_record(r, rest_of(s, at), all.records, place, sealed, passed);
+            records::say_record(to, r, rest_of(s, at), all.records, place, sealed, passed)?;
             all = sums::both(all, sums_of(r, s, at, sealed, passed));
             owed = owed::owed_after(r, owed, s, sealed);
             after = sealed::sealed_after(r, rest_of(s, at), after);
@@ -114,7 +122,7 @@ fn main() {
                 break;
             }
             wire::output::gen_bytes(&mut next, 0, rest_of(s, at));
-            let more = io::read_full(STDIN_FILENO, &mut next[kept..]);
+            let more = input::read_full(&mut stdin, &mut next[kept..])?;
             if more == 0 {
                 break;
             }
@@ -123,5 +131,5 @@ fn main() {
             have = std::num::wrapping_add_usize(kept, more);
         }
     }
-    say_end(all, rest_of(filled(&window, have), at), place, owed);
+    say_end(to, all, rest_of(filled(&window, have), at), place, owed)
 }

@@ -7,48 +7,52 @@ use content_walk::PastAnswer;
 use envelope::{HeadAnswer, TlsMessageHead};
 use message::handshake::MessageAnswer;
 use refusal::Refusal;
+use std::io::{self, Write};
 use wire::number::{NumberAnswer, Width};
 use wire::view::{part_of, rest_of};
 
 // A message that announces more bytes than `here`, by `lack`.
-fn goes_on(announced: usize, here: usize, lack: usize) {
-    text(b"  the message announces ");
-    count(announced, b" byte");
+fn goes_on(to: &mut impl Write, announced: usize, here: usize, lack: usize) -> io::Result<()> {
+    text(to, b"  the message announces ")?;
+    count(to, announced, b" byte")?;
     if lack > owed::BELIEVED {
-        text(b", which is not believed: the record may be encrypted\n");
-        return;
+        return text(
+            to,
+            b", which is not believed: the record may be encrypted\n",
+        );
     }
-    text(b" and ");
-    amount(here);
-    text(b" are here: it goes on in the next record\n");
+    text(to, b" and ")?;
+    amount(to, here)?;
+    text(to, b" are here: it goes on in the next record\n")
 }
 
 // A message whose body is here whole, and too short for what is in it.
-fn ends_early(r: Refusal, announced: usize) {
+fn ends_early(to: &mut impl Write, r: Refusal, announced: usize) -> io::Result<()> {
     if refusal::refusal_number(r) > 2 {
-        return;
+        return Ok(());
     }
-    text(b"  its body of ");
-    count(announced, b" byte");
-    text(b" ends before its fields do\n");
+    text(to, b"  its body of ")?;
+    count(to, announced, b" byte")?;
+    text(to, b" ends before its fields do\n")
 }
 
 // Why a message is not read, of which Incomplete or Complete does not tell enough.
-fn say_why(r: Refusal, message: &[u8]) {
+fn say_why(to: &mut impl Write, r: Refusal, message: &[u8]) -> io::Result<()> {
     match wire::number::parse_be(message, 1, Width::Three) {
         NumberAnswer::Refused(_) => {
-            text(b"  here are ");
-            number(message.len());
+            text(to, b"  here are ")?;
+            number(to, message.len())?;
             text(
+                to,
                 b" of the 4 bytes of a message's head: the next record, where it goes on, is read from its front\n",
-            );
+            )
         }
         NumberAnswer::Got(n) => {
             let here = rest_of(message, 4).len();
             if here < n.value {
-                goes_on(n.value, here, n.value - here);
+                goes_on(to, n.value, here, n.value - here)
             } else {
-                ends_early(r, n.value);
+                ends_early(to, r, n.value)
             }
         }
     }
@@ -56,79 +60,100 @@ fn say_why(r: Refusal, message: &[u8]) {
 
 // What a message that is refused begins as, and why it is not read. Nothing where there is no byte
 // of it.
-pub(crate) fn say_refused(r: Refusal, message: &[u8]) {
+pub(crate) fn say_refused(to: &mut impl Write, r: Refusal, message: &[u8]) -> io::Result<()> {
     if let NumberAnswer::Got(n) = wire::number::parse_be(message, 0, Width::One) {
         if n.value < 256 {
-            text(b"  it begins as ");
-            say_handshake_type(n.value as u8);
-            text(b"\n");
-            say_why(r, message);
+            text(to, b"  it begins as ")?;
+            say_handshake_type(to, n.value as u8)?;
+            text(to, b"\n")?;
+            say_why(to, r, message)?;
         }
     }
+    Ok(())
 }
 
 // What the body's reader left over; nothing where that is none.
-fn say_tail(tail: usize, body: &[u8], from: usize) {
+fn say_tail(to: &mut impl Write, tail: usize, body: &[u8], from: usize) -> io::Result<()> {
     if tail == 0 {
-        return;
+        return Ok(());
     }
     if body.len() < tail {
-        return;
+        return Ok(());
     }
-    text(b"    tail");
-    extent(from, body.len() - tail, tail);
-    text(b"\n");
+    text(to, b"    tail")?;
+    extent(to, from, body.len() - tail, tail)?;
+    text(to, b"\n")
 }
 
 // Tells what a message says. None that was counted is refused.
-fn say_opened(msg_type: u8, body: &[u8], from: usize) {
+fn say_opened(to: &mut impl Write, msg_type: u8, body: &[u8], from: usize) -> io::Result<()> {
     match envelope::parse_tls_handshake_body(msg_type, body) {
-        MessageAnswer::Refused(_) => {}
+        MessageAnswer::Refused(_) => Ok(()),
         MessageAnswer::Got(m) => {
-            bodies::say_body(m, body, from);
-            say_tail(m.rest(body).len(), body, from);
+            bodies::say_body(to, m, body, from)?;
+            say_tail(to, m.rest(body).len(), body, from)
         }
     }
 }
 
 // Tells the message that begins at `at` in the content.
-fn say_message(k: usize, at: usize, head: TlsMessageHead, content: &[u8], from: usize) {
+fn say_message(
+    to: &mut impl Write,
+    k: usize,
+    at: usize,
+    head: TlsMessageHead,
+    content: &[u8],
+    from: usize,
+) -> io::Result<()> {
     let body = head.body;
-    say::message(k, std::num::wrapping_add_usize(from, at));
+    say::message(to, k, std::num::wrapping_add_usize(from, at))?;
     say_opened(
+        to,
         head.msg_type,
         part_of(content, body),
         std::num::wrapping_add_usize(from, body.start),
-    );
+    )
 }
 
 // The bytes behind the last message of a record of that type, with why they hold none; nothing
 // where there are none.
-pub(crate) fn say_dropped(record_type: u8, end: usize, content: &[u8], from: usize) {
+pub(crate) fn say_dropped(
+    to: &mut impl Write,
+    record_type: u8,
+    end: usize,
+    content: &[u8],
+    from: usize,
+) -> io::Result<()> {
     let message = rest_of(content, end);
     let PastAnswer::Refused(r) = content_walk::past_message(record_type, content, end) else {
-        return;
+        return Ok(());
     };
     if message.len() == 0 {
-        return;
+        return Ok(());
     }
-    text(b"  dropped");
-    extent(from, end, message.len());
-    text(b", refused: ");
-    say_reason(r);
+    text(to, b"  dropped")?;
+    extent(to, from, end, message.len())?;
+    text(to, b", refused: ")?;
+    say_reason(to, r)?;
     if record_type == registry::record::HANDSHAKE {
-        say_refused(r, message);
+        say_refused(to, r, message)?;
     }
+    Ok(())
 }
 
 // Tells as many messages as were counted, and the bytes behind them.
-pub(crate) fn say_messages(all: usize, content: &[u8], from: usize) {
+pub(crate) fn say_messages(
+    to: &mut impl Write,
+    all: usize,
+    content: &[u8],
+    from: usize,
+) -> io::Result<()> {
     let mut at: usize = 0;
     for k in 0..all {
         if let HeadAnswer::Got(head) = envelope::parse_tls_message_head(content, at) {
-            say_message(k + 1, at, head, content, from);
+            say_message(to, k + 1, at, head, content, from)?;
             at = head.next;
         }
     }
-    say_dropped(registry::record::HANDSHAKE, at, content, from);
+    say_dropped(to, registry::record::HANDSHAKE, at, content, from)
 }

@@ -2,9 +2,11 @@
 // rust/src/ciphers/rows.rs. A row is a part behind its length of one byte: the number, two bytes,
 // and the name.
 use crate::ciphers::find;
+use std::io::{self, Write};
 
-fn page_0(n: usize) {
+fn page_0(to: &mut impl Write, n: usize) -> io::Result<()> {
     find(
+        to,
         b"\x19\x00\x00TLS_NULL_WITH_NULL_NULL\
           \x17\x00\x01TLS_RSA_WITH_NULL_MD5\
           \x17\x00\x02TLS_RSA_WITH_NULL_SHA\
@@ -39,11 +41,12 @@ fn page_0(n: usize) {
           \x1c\x00\x21TLS_KRB5_WITH_IDEA_CBC_SHA\
           \x1b\x00\x22TLS_KRB5_WITH_DES_CBC_MD5",
         n,
-    );
+    )
 }
 
-fn page_1(n: usize) {
+fn page_1(to: &mut impl Write, n: usize) -> io::Result<()> {
     find(
+        to,
         b"\x20\x00\x23TLS_KRB5_WITH_3DES_EDE_CBC_MD5\
           \x1b\x00\x24TLS_KRB5_WITH_RC4_128_MD5\
           \x1c\x00\x25TLS_KRB5_WITH_IDEA_CBC_MD5\
@@ -78,11 +81,12 @@ fn page_1(n: usize) {
           \x26\x00\x42TLS_DH_DSS_WITH_CAMELLIA_128_CBC_SHA\
           \x26\x00\x43TLS_DH_RSA_WITH_CAMELLIA_128_CBC_SHA",
         n,
-    );
+    )
 }
 
-fn page_2(n: usize) {
+fn page_2(to: &mut impl Write, n: usize) -> io::Result<()> {
     find(
+        to,
         b"\x27\x00\x44TLS_DHE_DSS_WITH_CAMELLIA_128_CBC_SHA\
           \x27\x00\x45TLS_DHE_RSA_WITH_CAMELLIA_128_CBC_SHA\
           \x27\x00\x46TLS_DH_anon_WITH_CAMELLIA_128_CBC_SHA\
@@ -117,11 +121,12 @@ fn page_2(n: usize) {
           \x1f\x00\x99TLS_DHE_DSS_WITH_SEED_CBC_SHA\
           \x1f\x00\x9aTLS_DHE_RSA_WITH_SEED_CBC_SHA",
         n,
-    );
+    )
 }
 
-fn page_3(n: usize) {
+fn page_3(to: &mut impl Write, n: usize) -> io::Result<()> {
     find(
+        to,
         b"\x1f\x00\x9bTLS_DH_anon_WITH_SEED_CBC_SHA\
           \x21\x00\x9cTLS_RSA_WITH_AES_128_GCM_SHA256\
           \x21\x00\x9dTLS_RSA_WITH_AES_256_GCM_SHA384\
@@ -156,11 +161,12 @@ fn page_3(n: usize) {
           \x26\x00\xbaTLS_RSA_WITH_CAMELLIA_128_CBC_SHA256\
           \x29\x00\xbbTLS_DH_DSS_WITH_CAMELLIA_128_CBC_SHA256",
         n,
-    );
+    )
 }
 
-fn page_4(n: usize) {
+fn page_4(to: &mut impl Write, n: usize) -> io::Result<()> {
     find(
+        to,
         b"\x29\x00\xbcTLS_DH_RSA_WITH_CAMELLIA_128_CBC_SHA256\
           \x2a\x00\xbdTLS_DHE_DSS_WITH_CAMELLIA_128_CBC_SHA256\
           \x2a\x00\xbeTLS_DHE_RSA_WITH_CAMELLIA_128_CBC_SHA256\
@@ -181,25 +187,25 @@ fn page_4(n: usize) {
           \x1a\x13\x05TLS_AES_128_CCM_8_SHA256\
           \x13\x56\x00TLS_FALLBACK_SCSV",
         n,
-    );
+    )
 }
 
 // The name of the cipher suite `n`, behind a blank; nothing where there is none.
-pub(crate) fn say_name(n: usize) {
+pub(crate) fn say_name(to: &mut impl Write, n: usize) -> io::Result<()> {
     if n < 0x0044 {
         if n < 0x0023 {
-            page_0(n);
+            page_0(to, n)
         } else {
-            page_1(n);
+            page_1(to, n)
         }
     } else {
         if n < 0x009b {
-            page_2(n);
+            page_2(to, n)
         } else {
             if n < 0x00bc {
-                page_3(n);
+                page_3(to, n)
             } else {
-                page_4(n);
+                page_4(to, n)
             }
         }
     }

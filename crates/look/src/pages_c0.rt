@@ -2,9 +2,11 @@
 // rust/src/ciphers/rows.rs. A row is a part behind its length of one byte: the number, two bytes,
 // and the name.
 use crate::ciphers::find;
+use std::io::{self, Write};
 
-fn page_0(n: usize) {
+fn page_0(to: &mut impl Write, n: usize) -> io::Result<()> {
     find(
+        to,
         b"\x1e\xc0\x01TLS_ECDH_ECDSA_WITH_NULL_SHA\
           \x21\xc0\x02TLS_ECDH_ECDSA_WITH_RC4_128_SHA\
           \x26\xc0\x03TLS_ECDH_ECDSA_WITH_3DES_EDE_CBC_SHA\
@@ -39,11 +41,12 @@ fn page_0(n: usize) {
           \x22\xc0\x20TLS_SRP_SHA_WITH_AES_256_CBC_SHA\
           \x26\xc0\x21TLS_SRP_SHA_RSA_WITH_AES_256_CBC_SHA",
         n,
-    );
+    )
 }
 
-fn page_1(n: usize) {
+fn page_1(to: &mut impl Write, n: usize) -> io::Result<()> {
     find(
+        to,
         b"\x26\xc0\x22TLS_SRP_SHA_DSS_WITH_AES_256_CBC_SHA\
           \x29\xc0\x23TLS_ECDHE_ECDSA_WITH_AES_128_CBC_SHA256\
           \x29\xc0\x24TLS_ECDHE_ECDSA_WITH_AES_256_CBC_SHA384\
@@ -78,11 +81,12 @@ fn page_1(n: usize) {
           \x25\xc0\x41TLS_DH_RSA_WITH_ARIA_256_CBC_SHA384\
           \x26\xc0\x42TLS_DHE_DSS_WITH_ARIA_128_CBC_SHA256",
         n,
-    );
+    )
 }
 
-fn page_2(n: usize) {
+fn page_2(to: &mut impl Write, n: usize) -> io::Result<()> {
     find(
+        to,
         b"\x26\xc0\x43TLS_DHE_DSS_WITH_ARIA_256_CBC_SHA384\
           \x26\xc0\x44TLS_DHE_RSA_WITH_ARIA_128_CBC_SHA256\
           \x26\xc0\x45TLS_DHE_RSA_WITH_ARIA_256_CBC_SHA384\
@@ -117,11 +121,12 @@ fn page_2(n: usize) {
           \x27\xc0\x62TLS_ECDH_RSA_WITH_ARIA_128_GCM_SHA256\
           \x27\xc0\x63TLS_ECDH_RSA_WITH_ARIA_256_GCM_SHA384",
         n,
-    );
+    )
 }
 
-fn page_3(n: usize) {
+fn page_3(to: &mut impl Write, n: usize) -> io::Result<()> {
     find(
+        to,
         b"\x22\xc0\x64TLS_PSK_WITH_ARIA_128_CBC_SHA256\
           \x22\xc0\x65TLS_PSK_WITH_ARIA_256_CBC_SHA384\
           \x26\xc0\x66TLS_DHE_PSK_WITH_ARIA_128_CBC_SHA256\
@@ -156,11 +161,12 @@ fn page_3(n: usize) {
           \x29\xc0\x83TLS_DH_DSS_WITH_CAMELLIA_256_GCM_SHA384\
           \x2a\xc0\x84TLS_DH_anon_WITH_CAMELLIA_128_GCM_SHA256",
         n,
-    );
+    )
 }
 
-fn page_4(n: usize) {
+fn page_4(to: &mut impl Write, n: usize) -> io::Result<()> {
     find(
+        to,
         b"\x2a\xc0\x85TLS_DH_anon_WITH_CAMELLIA_256_GCM_SHA384\
           \x2e\xc0\x86TLS_ECDHE_ECDSA_WITH_CAMELLIA_128_GCM_SHA256\
           \x2e\xc0\x87TLS_ECDHE_ECDSA_WITH_CAMELLIA_256_GCM_SHA384\
@@ -195,11 +201,12 @@ fn page_4(n: usize) {
           \x1a\xc0\xa4TLS_PSK_WITH_AES_128_CCM\
           \x1a\xc0\xa5TLS_PSK_WITH_AES_256_CCM",
         n,
-    );
+    )
 }
 
-fn page_5(n: usize) {
+fn page_5(to: &mut impl Write, n: usize) -> io::Result<()> {
     find(
+        to,
         b"\x1e\xc0\xa6TLS_DHE_PSK_WITH_AES_128_CCM\
           \x1e\xc0\xa7TLS_DHE_PSK_WITH_AES_256_CCM\
           \x1c\xc0\xa8TLS_PSK_WITH_AES_128_CCM_8\
@@ -228,29 +235,29 @@ fn page_5(n: usize) {
           \x29\xd0\x03TLS_ECDHE_PSK_WITH_AES_128_CCM_8_SHA256\
           \x27\xd0\x05TLS_ECDHE_PSK_WITH_AES_128_CCM_SHA256",
         n,
-    );
+    )
 }
 
 // The name of the cipher suite `n`, behind a blank; nothing where there is none.
-pub(crate) fn say_name(n: usize) {
+pub(crate) fn say_name(to: &mut impl Write, n: usize) -> io::Result<()> {
     if n < 0xc064 {
         if n < 0xc022 {
-            page_0(n);
+            page_0(to, n)
         } else {
             if n < 0xc043 {
-                page_1(n);
+                page_1(to, n)
             } else {
-                page_2(n);
+                page_2(to, n)
             }
         }
     } else {
         if n < 0xc085 {
-            page_3(n);
+            page_3(to, n)
         } else {
             if n < 0xc0a6 {
-                page_4(n);
+                page_4(to, n)
             } else {
-                page_5(n);
+                page_5(to, n)
             }
         }
     }

@@ -5,6 +5,7 @@ ghost use Rattle.look.specs.Sums.{added, continued_sums, hellos_in, no_sums, ope
 use crate::say::{amount, count, text};
 use record_open::TlsPlaintext;
 use record_tally::HelloTally;
+use std::io::{self, Write};
 
 // Of the records told: how many they are, are refused, are sealed and go on with a message begun
 // before them; their messages and dropped bytes; the hellos among the messages, and those
@@ -129,43 +130,43 @@ pub(crate) fn both(a: Sums, b: Sums) -> Sums
 }
 
 // The hellos, and those that a person has to look at.
-fn say_hellos(s: Sums) {
-    text(b"  ");
-    count(s.clients, b" ClientHello");
-    text(b", ");
-    count(s.servers, b" ServerHello");
-    text(b"; with a tail in place of extensions: ");
-    amount(s.cut);
+fn say_hellos(to: &mut impl Write, s: Sums) -> io::Result<()> {
+    text(to, b"  ")?;
+    count(to, s.clients, b" ClientHello")?;
+    text(to, b", ")?;
+    count(to, s.servers, b" ServerHello")?;
+    text(to, b"; with a tail in place of extensions: ")?;
+    amount(to, s.cut)?;
     if s.cut > 0 {
-        text(b" (a block may have been cut off)");
+        text(to, b" (a block may have been cut off)")?;
     }
-    text(b"\n");
+    text(to, b"\n")
 }
 
 // What was not opened, refused or dropped, and how many bytes no record holds.
-fn say_rest(s: Sums, left: usize) {
-    text(b"  ");
-    count(s.sealed, b" record");
-    text(b" not opened, ");
-    amount(s.refused);
-    text(b" refused, ");
-    amount(s.continued);
-    text(b" going on with a message, ");
-    count(s.dropped, b" byte");
-    text(b" dropped, ");
-    count(left, b" byte");
-    text(b" left over\n");
+fn say_rest(to: &mut impl Write, s: Sums, left: usize) -> io::Result<()> {
+    text(to, b"  ")?;
+    count(to, s.sealed, b" record")?;
+    text(to, b" not opened, ")?;
+    amount(to, s.refused)?;
+    text(to, b" refused, ")?;
+    amount(to, s.continued)?;
+    text(to, b" going on with a message, ")?;
+    count(to, s.dropped, b" byte")?;
+    text(to, b" dropped, ")?;
+    count(to, left, b" byte")?;
+    text(to, b" left over\n")
 }
 
 // Prints the summary, of so many bytes, of which `left` are behind the last whole record.
-pub(crate) fn say_sums(s: Sums, all: usize, left: usize) {
-    text(b"in all: ");
-    count(s.records, b" record");
-    text(b", ");
-    count(s.messages, b" message");
-    text(b", ");
-    count(all, b" byte");
-    text(b" read\n");
-    say_hellos(s);
-    say_rest(s, left);
+pub(crate) fn say_sums(to: &mut impl Write, s: Sums, all: usize, left: usize) -> io::Result<()> {
+    text(to, b"in all: ")?;
+    count(to, s.records, b" record")?;
+    text(to, b", ")?;
+    count(to, s.messages, b" message")?;
+    text(to, b", ")?;
+    count(to, all, b" byte")?;
+    text(to, b" read\n")?;
+    say_hellos(to, s)?;
+    say_rest(to, s, left)
 }

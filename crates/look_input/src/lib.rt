@@ -1,4 +1,6 @@
 // What the bytes that a person hands to the program `look` seem to be.
+#![tactic(auto)]
+
 mod mark;
 
 ghost use Rattle.std.specs.Prelude.{◌≡◌};

@@ -2,9 +2,8 @@
 -- of every message. Assumes nothing.
 use Prim.Native.Nat.{ℕ}
 use mathlib.Core.Path.{◌≡◌, refl}
-use mathlib.Core.Option.{Option, none, some}
-use mathlib.Core.List.{List, [], ◌∷◌}
-use mathlib.Core.Bool.{Bool, true, false}
+use mathlib.Core.Option.{none, some}
+use mathlib.Core.Bool.{false}
 use lib.Dec.{eqb}
 use Rattle.message.specs.Messages.{kind_number, WrittenBody, no_body, client_body, server_body, draft18_body}
 use Rattle.message.specs.Messages.{exchange_body, finished_body, body_written}

@@ -1,4 +1,6 @@
 // The bodies that hold fields, opened as messages.
+#![tactic(auto)]
+
 ghost use Rattle.std.specs.Prelude.{◌≡◌};
 ghost use Rattle.refusal.specs.Answers.{giving};
 ghost use Rattle.read_others.specs.Body.{next_protocol, session_ticket};

@@ -1,4 +1,6 @@
 // The bodies of hellos and of what asks for one, opened as messages.
+#![tactic(auto)]
+
 ghost use Rattle.std.specs.Prelude.{◌≡◌};
 ghost use Rattle.read_others.specs.Body.{retry};
 ghost use Rattle.read_client.specs.Client.{client, strict_client};

@@ -1,4 +1,6 @@
 // The bodies that are handed out whole, opened as messages: each is the first `len` bytes.
+#![tactic(auto)]
+
 ghost use Rattle.std.specs.Prelude.{◌≡◌};
 ghost use Rattle.message.specs.Messages.{message_says};
 ghost use Rattle.message.specs.declared.handshake.TlsMessageHandshake.TheVariants.{CertificateVerify, ClientKeyExchange, Finished, ServerDone, ServerKeyExchange};

@@ -1,4 +1,6 @@
 // The record's header, and records whose content is not opened (RFC 5246 6.2.1, 6.2.3).
+#![tactic(auto)]
+
 ghost use Rattle.std.specs.Prelude.{◌≡◌};
 ghost use Rattle.grammar.specs.Forms.{reading};
 ghost use Rattle.record.specs.Records.{encrypted, encrypted_says, header, header_says, raw, raw_says};

@@ -21,9 +21,8 @@ use Rattle.read_server.proofs.tlsv12.parse_tls_server_hello_tlsv12.Goals as goal
 pub returns-in-Refused : goal.returns-in-Refused
 returns-in-Refused c =
     let split : BySplit (server c.args.has_ext) c.args.i.now = demand3 c.args.has_ext _ (λ n. (c.type_inv.i n).fits) in
-    let a = c.args in
     record {
-      result_value = sym (stop_all start_rows (cipher ∷ compression ∷ []) (begin (server a.has-ext) a.i.now)
+      result_value = sym (stop_all start_rows (cipher ∷ compression ∷ []) (begin (server c.args.has_ext) c.args.i.now)
           (not_begun _ (case start_says c.parse_start.ensures c.in-Refused.is)));
       by_split = (split);
     }
