@@ -1,6 +1,8 @@
 // The messages of a record, written: ChangeCipherSpec and alert, and any message by its kind (RFC
 // 5246 7.1, 7.2). What is written is the message alone; the record's writer puts the record round
 // it.
+#![tactic(auto)]
+
 ghost use Rattle.std.specs.Prelude.{◌≡◌};
 ghost use Rattle.wire.specs.Puts.{room, written, write_says};
 ghost use Rattle.write_rules.specs.JoinTexts.{text_length};
