@@ -12,15 +12,11 @@ use Rattle.field.specs.{Field, fixed, sized, least}
 use Rattle.field.specs.Closing.{EveryClosing, EveryLength}
 use Rattle.grammar.specs.{client_to_fill, BySplit, ByVersion, ByExactSplit, ByClosedSplit}
 use Rattle.list.specs.{NoneMore, ByItems}
-use Rattle.list.specs.Tagged.{tagged_says, EveryTagged}
 use Rattle.read_start.specs.Start.{start_says}
 use Rattle.read_client.specs.{client, client_says, TellsExactness, TlsClientHelloContents}
 use Rattle.read_server.specs.{server, server_versions, server_says, draft18, draft18_says, TlsServerHelloContents, TlsServerHelloV13Draft18Contents}
 use Rattle.read_certs.specs.{certificate, certificate_says, request, request_says, status, status_says, OfRequest}
 use Rattle.cert_reader.specs.Chain.{SameItems}
-use Rattle.read_ext.specs.Kinds.{EveryKind}
-use Rattle.read_ext.specs.Extensions.{OneBlock}
-use Rattle.read_ext.specs.Splits.{EveryBlock}
 use Rattle.read_others.specs.Body.{retry, retry_says, ticket_form, ticket_says, next_protocol, next_protocol_says, OfTicket}
 use Rattle.message.specs.{message_says, TlsMessageHandshake, kind_number, type_of, body_written}
 use Rattle.write_message.specs.Written.{handshake_text}
@@ -34,9 +30,6 @@ use Rattle.record.specs.{raw, header_says, raw_says, encrypted_says}
 use Rattle.record_open.specs.{plaintext_says, opened_says}
 use Rattle.record_many.specs.{many_says, ManyRecords}
 use Rattle.record_joined.specs.Joined.{view_in_of, NoRecordMore}
-use Rattle.write_ext.specs.ExtTexts.{length_says, row_says}
-use Rattle.write_ext.specs.ListsBack.{EveryList, EveryRead, EveryRows, EveryValue, AtEdge}
-use Rattle.norrabist_c.specs.Extensions.{EveryExtensionBack}
 use Rattle.norrabist_c.specs.HellosBack.{HellosBack}
 use Rattle.norrabist_c.specs.BodiesBack.{BodiesBack, ListsBack}
 use Rattle.norrabist_c.specs.HeadsBack.{HeadsBack}
@@ -46,8 +39,6 @@ use Rattle.claim_rows.specs.Readings.{rows, own_rows, AllRead}
 use Rattle.claim_readers.specs.Readers.{Readers}
 use Rattle.claim_wayback.specs.WayBack.{EveryText, WritesBack, WritesWhole, ReadsAgain, BackByVersion, AgainByVersion, OneText, WayBack}
 use Rattle.claim_writers.specs.Writers.{Writers}
-use Rattle.claim_ext.specs.ExtCases.{BlockCases, WriteCases}
-use Rattle.claim_ext.specs.ExtRows.{SmallBlocks}
 use Rattle.claims.specs.Crossed.{HeaderAndRecord, is_written}
 
 -- of every list of bytes: what is lent is one by its type, which `claims::bytes_lent` promises
@@ -84,10 +75,6 @@ pub record Claims : Type 0 where
   pub one_found_of : OneResult found_says
   pub one_past : OneResult past_says
   pub one_many : OneResult many_says
-  pub one_tagged : OneResult tagged_says
-  pub one_length : OneResult length_says
-  pub one_row : OneResult row_says
-  pub one_block : OneBlock
   -- numbers and their bytes, of every width
   pub numbers : (w : ℕ) → EachUndoes w
   -- demand 3, its reading half, of the three hellos: by their grammars, a ServerHello by its
@@ -136,18 +123,6 @@ pub record Claims : Type 0 where
   pub closing_length : EveryLength
   pub splits_ticket : OfBytes (ByClosedSplit ticket_form)
   pub ticket : (n : ℕ) → OfBytes (OfTicket n)
-  -- extensions: items with a tag, of every width and whatever data they may have; the law of
-  -- lengths over every kind; the split of a block. Written: a list by type and content, with its
-  -- orders and the way back; a block that was read; rows, whatever they hold; one as a value; the
-  -- edges
-  pub tagged : EveryTagged
-  pub ext_kinds : EveryKind
-  pub blocks : EveryBlock
-  pub ext_lists : EveryList
-  pub ext_read : EveryRead
-  pub ext_rows : EveryRows
-  pub ext_values : EveryValue
-  pub ext_edges : AtEdge
   -- records, joined ones, the walk over one, the messages of a content of every type, joined ones
   -- that are opened, the reader that holds its list, and a part of a part as a part of the whole
   pub splits_record : OfBytes (BySplit raw)
@@ -166,7 +141,6 @@ pub record Claims : Type 0 where
   pub lists_told : (s : List ℕ) → ListsBack s
   pub heads_told : OfBytes HeadsBack
   pub contents_told : (s : List ℕ) → ContentsBack s
-  pub extensions_told : EveryExtensionBack
   pub slices_same : SlicesSame
   -- rules said a second time: the header and the record, types and kinds, which kinds are written,
   -- the rows of RULES 8 and our own
@@ -181,7 +155,4 @@ pub record Claims : Type 0 where
   -- written, and small ones of both
   pub readers_say : Readers
   pub writers_say : (s out : List ℕ) → Writers s out
-  pub block_cases : BlockCases
-  pub write_cases : WriteCases
-  pub small_blocks : SmallBlocks
   pub writers_type : (s : List ℕ) (m : TlsMessageHandshake) (t : List ℕ) → handshake_text s m ≡ accepted t → get_or t 0 0 ≡ type_of m

@@ -1,2 +1,3 @@
 pub mod Crossed
 pub mod Claims
+pub mod ExtensionClaims

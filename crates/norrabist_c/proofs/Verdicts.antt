@@ -55,7 +55,6 @@ not_other k n s h =
       apart 0x0108 (omega arith) (omega arith),
       apart 0x0109 (omega arith) (omega arith),
       apart 0x010a (omega arith) (omega arith),
-      apart 0x010b (omega arith) (omega arith),
     )
   where
     ends : (t : ℕ) → 0x0100 ≤ t → t < 0x0200 → (k < 0x0100) ⊎ (0x0200 ≤ k) → k ≡ t → ⊥

@@ -7,7 +7,6 @@ use Rattle.grammar.specs.{reading, by_version}
 use Rattle.list.specs.{or_no_such}
 use Rattle.envelope.specs.{opened, met_at}
 use Rattle.read_client.specs.{strict_client}
-use Rattle.read_ext.specs.Extensions.{answer_in, extensions}
 use Rattle.read_server.specs.{server_versions}
 use Rattle.record.specs.{raw}
 use Rattle.record.specs.Records.{header}
@@ -23,7 +22,7 @@ verdict a = giving (λ x. tt) a
 -- the readers other than those of bodies by their types, each of the bytes s, n the byte at which
 -- it begins: a record's header, a record that is not opened, one that is, the message at a byte,
 -- the next of a walk, a ServerHello that is not of draft 18, joined records, a ChangeCipherSpec, an
--- alert, a heartbeat of n bytes, n modulo 2^16, a strict ClientHello, and an extension block
+-- alert, a heartbeat of n bytes, n modulo 2^16, and a strict ClientHello
 abbrev pub other_readers : ℕ → List ℕ → List (ℕ × Answer Unit)
 other_readers n s =
     (0x0100, verdict (header s))
@@ -37,7 +36,6 @@ other_readers n s =
     ∷ (0x0108, verdict (alert_at s 0))
     ∷ (0x0109, verdict (heartbeat_in (n % 65536) s))
     ∷ (0x010a, verdict (strict_client s))
-    ∷ (0x010b, verdict (answer_in (extensions s)))
     ∷ []
 
 -- the answer of a reader, of which the refusal is told: 0x0200 and a record's type is the reader of

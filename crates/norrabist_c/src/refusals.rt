@@ -5,7 +5,6 @@ ghost use Rattle.grammar.specs.Forms.{by_version, reading};
 ghost use Rattle.list.specs.Items.{or_no_such};
 ghost use Rattle.norrabist_c.specs.Readers.{answer_of, refusal_told, verdict};
 ghost use Rattle.read_client.specs.Client.{strict_client};
-ghost use Rattle.read_ext.specs.Extensions.{answer_in, extensions};
 ghost use Rattle.read_server.specs.Server.{server_versions};
 ghost use Rattle.record.specs.Records.{header, raw};
 ghost use Rattle.content.specs.Contents.{alert_at, cipher_spec_at, heartbeat_in};
@@ -18,7 +17,6 @@ use content_walk::PastAnswer;
 use envelope::HeadAnswer;
 use message::handshake::MessageAnswer;
 use read_client::ClientHelloAnswer;
-use read_ext::TlsExtensionsAnswer;
 use read_server::tlsv12::ServerHelloAnswer;
 use record::{RawRecordAnswer, RecordHeaderAnswer};
 use record_many::ManyAnswer;
@@ -141,15 +139,6 @@ fn of_client_strict(i: &[u8]) -> RefusalTold
     }
 }
 
-fn of_extensions(i: &[u8]) -> RefusalTold
-    ensures { result ≡ refusal_told (verdict (answer_in (extensions i.now))) }
-{
-    match read_ext::parse_tls_extensions(i) {
-        TlsExtensionsAnswer::Damaged(d) => carried(d.refusal),
-        TlsExtensionsAnswer::Got(_) => RefusalTold { number: 0 },
-    }
-}
-
 fn of_content(record_type: u8, i: &[u8]) -> RefusalTold
     ensures { result ≡ refusal_told (verdict (first_of record_type 0 i.now)) }
 {
@@ -188,7 +177,6 @@ pub extern "C" fn norrabist_refusal(reader: u16, i: &[u8], n: usize) -> RefusalT
         0x0108 => of_alert(i),
         0x0109 => of_heartbeat(i, n),
         0x010a => of_client_strict(i),
-        0x010b => of_extensions(i),
         0x0200..=0x02ff => of_content((reader - 0x0200) as u8, i),
         0x0000..=0x00ff => of_body(reader as u8, i, n),
         _ => carried(refusal::unplaced(Reason::Switch)),

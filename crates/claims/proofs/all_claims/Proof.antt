@@ -9,16 +9,12 @@ use Rattle.field.specs.Fields.{fixed, sized}
 use Rattle.field.proofs.Closing.{every_closing, every_length}
 use Rattle.list.proofs.Fields.{none_more}
 use Rattle.list.proofs.Listed.{by_items}
-use Rattle.list.proofs.Tags.{one_tagged_lem, every_tagged}
 use Rattle.read_start.proofs.Begun.{one_start_lem}
 use Rattle.read_client.proofs.Whole as client
 use Rattle.read_client.proofs.Strict as strict
 use Rattle.read_server.proofs.Whole as server
 use Rattle.read_certs.proofs.Whole as certs
 use Rattle.cert_reader.proofs.Same.{every_reader}
-use Rattle.read_ext.proofs.Answers.{one_block_lem}
-use Rattle.read_ext.proofs.Blocks.{every_block}
-use Rattle.read_ext.proofs.OfKind.{every_kind}
 use Rattle.read_others.proofs.Whole as body
 use Rattle.message.proofs.Answers.{one_message_lem}
 use Rattle.open_hellos.proofs.Opened as hellos
@@ -32,10 +28,6 @@ use Rattle.record_open.proofs.Answers.{one_plaintext_lem, one_opened_lem}
 use Rattle.record_many.proofs.Answers.{one_many_lem}
 use Rattle.record_many.proofs.Records.{every_many}
 use Rattle.record_joined.proofs.Joined.{no_record_more_lem, same_bytes}
-use Rattle.write_ext.proofs.Answers.{one_length_lem, one_row_lem}
-use Rattle.write_ext.proofs.RowLists.{every_rows, every_read}
-use Rattle.write_ext.proofs.WholeLists.{every_list, every_value, at_edge}
-use Rattle.norrabist_c.proofs.ExtensionParts.{every_extension_back}
 use Rattle.norrabist_c.proofs.HellosBack.{hellos_back}
 use Rattle.norrabist_c.proofs.BodiesBack.{bodies_back, lists_back}
 use Rattle.norrabist_c.proofs.HeadsBack.{heads_back}
@@ -47,8 +39,6 @@ use Rattle.claim_wayback.proofs.WayBack.{way_back}
 use Rattle.claim_rows.proofs.Rows.{each_row}
 use Rattle.claim_readers.proofs.Table.{every_reading}
 use Rattle.claim_writers.proofs.Writers.{every_writing}
-use Rattle.claim_ext.proofs.Cases.{block_cases_lem, write_cases_lem}
-use Rattle.claim_ext.proofs.SmallBlocks.{small_blocks_lem}
 use Rattle.claims.proofs.Crossed.{header_and_record, tells_its_type, every_type, these_written}
 use Rattle.claims.proofs.all_claims.Statement.{statement}
 use Rattle.claims.proofs.all_claims.Tie as tie
@@ -82,10 +72,6 @@ returns c = record {
   one_found_of = one_found;
   one_past = one_past_lem;
   one_many = one_many_lem;
-  one_tagged = one_tagged_lem;
-  one_length = one_length_lem;
-  one_row = one_row_lem;
-  one_block = one_block_lem;
   numbers = every_width;
   reads_client = client.demand3;
   reads_server = server.demand3;
@@ -121,14 +107,6 @@ returns c = record {
   closing_length = every_length;
   splits_ticket = body.splits-ticket;
   ticket = body.of-ticket;
-  tagged = every_tagged;
-  ext_kinds = every_kind;
-  blocks = every_block;
-  ext_lists = every_list;
-  ext_read = every_read;
-  ext_rows = every_rows;
-  ext_values = every_value;
-  ext_edges = at_edge;
   splits_record = records.all-records;
   no_record_more = no_record_more_lem;
   walks = every_walk;
@@ -142,7 +120,6 @@ returns c = record {
   lists_told = lists_back;
   heads_told = heads_back;
   contents_told = contents_back;
-  extensions_told = every_extension_back;
   slices_same = slices_same_lem;
   header = header_and_record;
   kinds = tells_its_type;
@@ -151,9 +128,6 @@ returns c = record {
   other_rows = each_row.1;
   readers_say = every_reading;
   writers_say = every_writing;
-  block_cases = block_cases_lem;
-  write_cases = write_cases_lem;
-  small_blocks = small_blocks_lem;
   writers_type = every_type;
 }
 

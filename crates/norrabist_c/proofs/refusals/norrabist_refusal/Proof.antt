@@ -45,9 +45,6 @@ of-heartbeat-requires c κs = search rules
 of-client-strict-requires : tie.Need-of-client-strict-requires
 of-client-strict-requires c κs = search rules
 
-of-extensions-requires : tie.Need-of-extensions-requires
-of-extensions-requires c κs = search rules
-
 cast-of-body : tie.Need-overflow-cast-of-body
 cast-of-body c = search rules
 
@@ -111,19 +108,15 @@ unfolding answer_of
 returns-11 c = rw c.before.match.keys11 c.of-client-strict.ensures
 
 returns-12 : tie.Need-returns-12
-unfolding answer_of
-returns-12 c = rw c.before.match.keys12 c.of-extensions.ensures
+returns-12 c = rw (by_type_lem _ _ _ c.before.if1.true) c.of-body.ensures
 
 returns-13 : tie.Need-returns-13
-returns-13 c = rw (by_type_lem _ _ _ c.before.if1.true) c.of-body.ensures
-
-returns-14 : tie.Need-returns-14
-returns-14 c =
+returns-13 c =
     rw (by_content _ _ _ c.before.before.if2.false c.before.if3.true) c.of-content.ensures
 
-returns-15 : tie.Need-returns-15
+returns-14 : tie.Need-returns-14
 unfolding answer_of
-returns-15 c =
+returns-14 c =
     let i = c.before.before in
     let g = i.before.before in
     let k = g.before.before.args.reader in
@@ -131,18 +124,17 @@ returns-15 c =
     let d : (leb 0x0200 k && ltb k 0x0300) ≡ false =
     ⊎_elim (λ w. below_contents k w.taken) (λ w. above_contents k w.1.left) i.if2.branch in
     rw (
-      ne_eqb k 0x0100 m.0.0.0.0.0.0.0.0.0.0.0.1,
-      ne_eqb k 0x0101 m.0.0.0.0.0.0.0.0.0.0.1,
-      ne_eqb k 0x0102 m.0.0.0.0.0.0.0.0.0.1,
-      ne_eqb k 0x0103 m.0.0.0.0.0.0.0.0.1,
-      ne_eqb k 0x0104 m.0.0.0.0.0.0.0.1,
-      ne_eqb k 0x0105 m.0.0.0.0.0.0.1,
-      ne_eqb k 0x0106 m.0.0.0.0.0.1,
-      ne_eqb k 0x0107 m.0.0.0.0.1,
-      ne_eqb k 0x0108 m.0.0.0.1,
-      ne_eqb k 0x0109 m.0.0.1,
-      ne_eqb k 0x010a m.0.1,
-      ne_eqb k 0x010b m.1,
+      ne_eqb k 0x0100 m.0.0.0.0.0.0.0.0.0.0.1,
+      ne_eqb k 0x0101 m.0.0.0.0.0.0.0.0.0.1,
+      ne_eqb k 0x0102 m.0.0.0.0.0.0.0.0.1,
+      ne_eqb k 0x0103 m.0.0.0.0.0.0.0.1,
+      ne_eqb k 0x0104 m.0.0.0.0.0.0.1,
+      ne_eqb k 0x0105 m.0.0.0.0.0.1,
+      ne_eqb k 0x0106 m.0.0.0.0.1,
+      ne_eqb k 0x0107 m.0.0.0.1,
+      ne_eqb k 0x0108 m.0.0.1,
+      ne_eqb k 0x0109 m.0.1,
+      ne_eqb k 0x010a m.1,
       d,
       unlisted k _ _ i.before.if1.false,
       ← c.before.unplaced.ensures,
@@ -164,7 +156,6 @@ norrabist_refusal_spec =
     of-alert-requires
     of-heartbeat-requires
     of-client-strict-requires
-    of-extensions-requires
     cast-of-body
     of-body-requires
     cast-of-content
@@ -183,6 +174,6 @@ norrabist_refusal_spec =
     returns-10
     returns-11
     returns-12
+    returns-12
     returns-13
-    returns-14
-    returns-15)
+    returns-14)
