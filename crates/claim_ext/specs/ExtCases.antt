@@ -2,7 +2,8 @@
 -- written, said a second time: RULES 1.2, 11.3 to 11.6, 11.11, 11.12; RFC 5246 7.4.1.4, RFC 6066 3
 -- and 4, RFC 8422 5.1.1. By places and lengths in the bytes lent, with no field, kind, item or step
 -- in it. Shown by `proofs/Cases.antt`.
-use Rattle.refusal.specs.{ℕ, zero, suc, ◌+◌, ◌*◌, ◌%◌, ◌≡◌, List, [], ◌∷◌, Bool, true, false, ◌&&◌, ◌||◌, length, get_or, leb, eqb, number_of, Answer, accepted, refused, LengthValue, BadLength, NotYetImplemented}
+use Rattle.std.specs.Prelude.{◌+◌, ◌*◌, ◌%◌, ◌≡◌, ◌∷◌, ◌&&◌, ◌||◌}
+use Rattle.refusal.specs.{ℕ, zero, suc, List, [], Bool, true, false, length, get_or, leb, eqb, number_of, Answer, accepted, refused, LengthValue, BadLength, NotYetImplemented}
 use Rattle.wire.specs.{pick}
 use Rattle.read_ext.specs.Extensions.{InBlock, sound, damaged, extensions}
 use Rattle.write_ext.specs.ExtTexts.{ext_text, list_text, name_text}

@@ -1,6 +1,7 @@
 -- Small extension blocks with their answers, and small lists with their texts: RULES 11. Bytes are
 -- written by their number. Shown by running the definitions, `proofs/SmallBlocks.antt`.
-use Rattle.refusal.specs.{ℕ, ◌≡◌, List, [], ◌∷◌, ◌++◌, number_of, LengthValue, BadLength, NotYetImplemented}
+use Rattle.std.specs.Prelude.{◌≡◌, ◌∷◌, ◌++◌}
+use Rattle.refusal.specs.{ℕ, List, [], number_of, LengthValue, BadLength, NotYetImplemented}
 use Rattle.wire.specs.{bytes_of}
 use Rattle.read_ext.specs.Extensions.{extensions, items_of}
 use Rattle.read_ext.specs.Splits.{contents_of}

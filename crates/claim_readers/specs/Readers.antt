@@ -3,7 +3,8 @@
 -- with no field, rule, grammar or step in it; `places` alone, of any field's items, takes their
 -- count from `items`. At the end, `Readers`, a table: each reader, its case, its refusals. Shown by
 -- `proofs/Table.antt`.
-use Rattle.refusal.specs.{ℕ, zero, suc, ◌+◌, ◌/◌, ◌%◌, ◌≤◌, ◌≡◌, List, [], ◌∷◌, Bool, true, false, ◌||◌, length, take, drop, leb, ltb, eqb, Answer, number_in, number_of, Reason, Incomplete, Complete, Verify, LengthValue, Tag, Switch, TooLarge, NoSuch, OneOf}
+use Rattle.std.specs.Prelude.{◌+◌, ◌/◌, ◌%◌, ◌≤◌, ◌≡◌, ◌∷◌, ◌||◌}
+use Rattle.refusal.specs.{ℕ, zero, suc, List, [], Bool, true, false, length, take, drop, leb, ltb, eqb, Answer, number_in, number_of, Reason, Incomplete, Complete, Verify, LengthValue, Tag, Switch, TooLarge, NoSuch, OneOf}
 use Rattle.wire.specs.{pick, be, number_at, View}
 use Rattle.field.specs.{Field, sized}
 use Rattle.grammar.specs.{reading, by_version}

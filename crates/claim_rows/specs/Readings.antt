@@ -2,7 +2,8 @@
 -- ClientHellos, a message of each type but 0x00, which row 13 has, a ServerHello of each version,
 -- records of each type, joined ones, a ticket's length. Bytes are written by their number: `03
 -- 000001` is `bytes_of 4 0x03_000001`.
-use Rattle.refusal.specs.{ℕ, ◌+◌, ◌≡◌, List, [], ◌∷◌, ◌++◌, Option, none, some, replicate, number_of, Answer, accepted, then, number_in, values_in, Reason, Incomplete, Complete, Verify, LengthValue, Tag, Switch, TooLarge, NoSuch}
+use Rattle.std.specs.Prelude.{◌+◌, ◌≡◌, ◌∷◌, ◌++◌}
+use Rattle.refusal.specs.{ℕ, List, [], Option, none, some, replicate, number_of, Answer, accepted, then, number_in, values_in, Reason, Incomplete, Complete, Verify, LengthValue, Tag, Switch, TooLarge, NoSuch}
 use Rattle.wire.specs.{part_of, bytes_of, OptView, Absent, Present, View}
 use Rattle.field.specs.{sized}
 use Rattle.grammar.specs.{reading, by_version}

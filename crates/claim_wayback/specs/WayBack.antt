@@ -2,7 +2,8 @@
 -- hellos, messages and records that were written, whatever stands behind them. RULES 0.3, 3.16,
 -- 7.6, 7.9, 7.13 to 7.15, 9.11. Shown by `proofs/Hellos.antt` for every form,
 -- `proofs/Demand3.antt`, `proofs/Contents.antt` and `proofs/WayBack.antt`.
-use Rattle.refusal.specs.{ℕ, ◌+◌, ◌<◌, ◌≤◌, ◌≡◌, List, [], ◌∷◌, ◌++◌, Bool, true, Option, none, some, length, take, drop, unplaced, Answer, accepted, refused, giving, NoRoom}
+use Rattle.std.specs.Prelude.{◌+◌, ◌<◌, ◌≤◌, ◌≡◌, ◌∷◌, ◌++◌}
+use Rattle.refusal.specs.{ℕ, List, [], Bool, true, Option, none, some, length, take, drop, unplaced, Answer, accepted, refused, giving, NoRoom}
 use Rattle.wire.specs.{part_of, opt_part_of, lookup, Bytes, bytes_of, room, written, OptView, Absent, Present, View}
 use Rattle.field.specs.{Field, field_bytes}
 use Rattle.grammar.specs.{extensions, Pieces, Form, all_named_of, pieces, reading, by_version, if_listed, ToFill, strictly}

@@ -3,7 +3,8 @@
 -- no case uses a field's rule or a form, and a rule's name is all that `field_write` takes. By its
 -- contract a writer's answer is `room` of its text, so each case is one of the code. Shown by
 -- `proofs/Writers.antt`.
-use Rattle.refusal.specs.{ℕ, ◌+◌, ◌%◌, ◌≡◌, List, [], ◌∷◌, Bool, true, ◌&&◌, Option, none, some, length, leb, eqb, number_of, Answer, accepted, number_in, values_in, Reason, TooLarge, BadLength, NoRoom, NotYetImplemented, OneOf}
+use Rattle.std.specs.Prelude.{◌+◌, ◌%◌, ◌≡◌, ◌∷◌, ◌&&◌}
+use Rattle.refusal.specs.{ℕ, List, [], Bool, true, Option, none, some, length, leb, eqb, number_of, Answer, accepted, number_in, values_in, Reason, TooLarge, BadLength, NoRoom, NotYetImplemented, OneOf}
 use Rattle.wire.specs.{if_some, pick, bytes_in, number_text, room, View, OptView, Absent, Present, Width, One, Two, Three, Four}
 use Rattle.field.specs.{vector, rule_of, field_text, RuleName, Plain, SessionId, Ciphers, Methods, Fragment}
 use Rattle.write_rules.specs.{hello_text, head_text, message_text, view_text}

@@ -4,8 +4,9 @@
 -- `EveryForm` and `EveryListing` (`grammar/specs/Demand3.antt`), `EveryStrict`
 -- (`grammar/specs/Strict.antt`) and `EveryClosed` (`grammar/specs/Closed.antt`), over all contents,
 -- are what the fields of demand 3 and `splits_ticket` are shown by, and have no field.
+use Rattle.std.specs.Prelude.{◌≤◌, ◌≡◌}
 use Rattle.std.specs.Borrow.{Bor}
-use Rattle.refusal.specs.{ℕ, ◌≤◌, ◌≡◌, Bool, List, get_or, NumbersApart, accepted, OneResult, true, false}
+use Rattle.refusal.specs.{ℕ, Bool, List, get_or, NumbersApart, accepted, OneResult, true, false}
 use Rattle.wire.specs.{if_some, part_of, part_says, Bytes, number_says, EachUndoes, write_says, View}
 use Rattle.field.specs.{Field, fixed, sized, least}
 use Rattle.field.specs.Closing.{EveryClosing, EveryLength}

@@ -1,7 +1,8 @@
 -- Rules said a second time over definitions that stand apart, so that a slip in one of them is
 -- refused by a proof even where the code has it too: RULES 0.5, 6.1. Shown by
 -- `proofs/Crossed.antt`.
-use Rattle.refusal.specs.{ℕ, ◌+◌, ◌≤◌, ◌≡◌, Bool, ◌||◌, eqb, List, accepted, refused, Refusal}
+use Rattle.std.specs.Prelude.{◌+◌, ◌≤◌, ◌≡◌, ◌||◌}
+use Rattle.refusal.specs.{ℕ, Bool, eqb, List, accepted, refused, Refusal}
 use Rattle.grammar.specs.{reading}
 use Rattle.record.specs.{header, raw, TlsRawRecord}
 

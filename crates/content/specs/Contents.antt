@@ -1,6 +1,7 @@
 -- The messages of records that are not handshake records: RULES 6.15 to 6.18; RFC 5246 7.1, 7.2 and
 -- 10, RFC 6520 4. Checks go in field order, and LengthValue is given where the message begins.
-use Rattle.refusal.specs.{ℕ, ◌+◌, ◌-◌, List, Bool, ◌||◌, ◌&&◌, length, eqb, leb, refusal, Answer, accepted, refused, then, giving, within, LengthValue}
+use Rattle.std.specs.Prelude.{◌+◌, ◌-◌, ◌||◌, ◌&&◌}
+use Rattle.refusal.specs.{ℕ, List, Bool, length, eqb, leb, refusal, Answer, accepted, refused, then, giving, within, LengthValue}
 use Rattle.registry.specs.Limits.{padding_least}
 use Rattle.wire.specs.{pick, part_of, number_at, Number}
 use Rattle.field.specs.{fixed, step}

@@ -2,7 +2,8 @@
 -- 6.6 to 6.9, 6.15 to 6.18; RFC 5246 6.2.1, RFC 6520 3. Of a record of handshake messages, of
 -- ChangeCipherSpec or of alerts each is looked for where the one before it ends, until one is
 -- refused; one of application data or of a heartbeat is one message.
-use Rattle.refusal.specs.{ℕ, zero, suc, ◌+◌, List, [], ◌∷◌, Bool, false, ◌||◌, length, eqb, refusal, Answer, accepted, refused, giving, NoSuch, Switch}
+use Rattle.std.specs.Prelude.{◌+◌, ◌∷◌, ◌||◌}
+use Rattle.refusal.specs.{ℕ, zero, suc, List, [], Bool, false, length, eqb, refusal, Answer, accepted, refused, giving, NoSuch, Switch}
 use Rattle.registry.specs.Types.{change_cipher_spec_record, alert_record, handshake_record, application_data_record, heartbeat_record}
 use Rattle.wire.specs.{pick, lookup, if_some}
 use Rattle.list.specs.{go_on_of, items_from, or_no_such, left_over_of}

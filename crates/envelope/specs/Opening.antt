@@ -1,6 +1,7 @@
 -- The head of a message, what its type opens, and the message: RULES 5.1 to 5.5, RFC 5246 7.4.
 -- Length and body are had before the type is looked at.
-use Rattle.refusal.specs.{ℕ, List, [], ◌∷◌, length, refusal, unplaced, Answer, accepted, refused, then, giving, within, Switch}
+use Rattle.std.specs.Prelude.{◌∷◌}
+use Rattle.refusal.specs.{ℕ, List, [], length, refusal, unplaced, Answer, accepted, refused, then, giving, within, Switch}
 use Rattle.registry.specs.Types.{hello_request_type, client_hello_type, server_hello_type, new_session_ticket_type, end_of_early_data_type, hello_retry_request_type, certificate_type, server_key_exchange_type, certificate_request_type, server_done_type, certificate_verify_type, client_key_exchange_type, finished_type, certificate_status_type, key_update_type, next_protocol_type}
 use Rattle.wire.specs.{part_of, lookup, if_some, number_at}
 use Rattle.field.specs.{step, sized}

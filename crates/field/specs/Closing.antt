@@ -1,7 +1,8 @@
 -- A field that has to end with the bytes: RULES 2.9. What stands from a place on is the field, to
 -- the last byte. All else gets one refusal, whatever is wrong: a length that is missing, that is
 -- not allowed, or that is unlike the bytes after it.
-use Rattle.refusal.specs.{ℕ, ◌+◌, ◌-◌, ◌<◌, ◌≤◌, ◌≡◌, ◌⊎◌, List, none, some, length, drop, eqb, Answer, accepted, refused, Refusal}
+use Rattle.std.specs.Prelude.{◌+◌, ◌-◌, ◌<◌, ◌≤◌, ◌≡◌, ◌⊎◌}
+use Rattle.refusal.specs.{ℕ, List, none, some, length, drop, eqb, Answer, accepted, refused, Refusal}
 use Rattle.wire.specs.{pick, part_of, Bytes, be, Part}
 use Rattle.field.specs.Fields.{Field, vector, Rule, step}
 use Rattle.field.specs.Standing.{field_bytes, Obeys, view_of}

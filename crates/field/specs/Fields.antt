@@ -1,6 +1,7 @@
 -- A field, its rule, and what reading it at a place finds: RULES 2.2 to 2.5, RFC 5246 4.3. A
 -- variable-length vector is its length in bytes and then its bytes.
-use Rattle.refusal.specs.{ℕ, ◌%◌, List, Bool, Option, none, some, leb, eqb, refusal, Answer, refused, then, Reason, Incomplete, Verify, LengthValue, TooLarge, BadLength, Refusal}
+use Rattle.std.specs.Prelude.{◌%◌}
+use Rattle.refusal.specs.{ℕ, List, Bool, Option, none, some, leb, eqb, refusal, Answer, refused, then, Reason, Incomplete, Verify, LengthValue, TooLarge, BadLength, Refusal}
 use Rattle.registry.specs.Limits.{session_id_limit, fragment_limit}
 use Rattle.wire.specs.{pick, if_some, part_at, number_at, Part}
 use Rattle.field.specs.declared.RuleName.{RuleName}

@@ -1,6 +1,7 @@
 -- A field in the bytes, with no reader in it: what its bytes are, which parts it may have, where
 -- the part lies, and what it is for the bytes to lack it. RULES 2.2, 9.4; RFC 5246 4.3.
-use Rattle.refusal.specs.{ℕ, ◌+◌, ◌-◌, ◌^◌, ◌<◌, ◌≡◌, ◌⊎◌, List, ◌++◌, none, some, length, refusal, Reason, Incomplete, Refusal}
+use Rattle.std.specs.Prelude.{◌+◌, ◌-◌, ◌^◌, ◌<◌, ◌≡◌, ◌⊎◌, ◌++◌}
+use Rattle.refusal.specs.{ℕ, List, none, some, length, refusal, Reason, Incomplete, Refusal}
 use Rattle.wire.specs.{bytes_of, View}
 use Rattle.field.specs.Fields.{Field, fixed, vector, Rule}
 

@@ -1,6 +1,7 @@
 -- A field written: RULES 2.4, 7.2; RFC 5246 4.3. Its bytes are those that a reader splits off,
 -- `field_bytes`.
-use Rattle.refusal.specs.{ℕ, ◌^◌, List, Bool, ◌&&◌, true, false, length, ltb, eqb, unplaced, Answer, accepted, refused, Reason, BadLength}
+use Rattle.std.specs.Prelude.{◌^◌, ◌&&◌}
+use Rattle.refusal.specs.{ℕ, List, Bool, true, false, length, ltb, eqb, unplaced, Answer, accepted, refused, Reason, BadLength}
 use Rattle.wire.specs.{pick, if_some}
 use Rattle.field.specs.Fields.{Field, fixed, vector, Rule}
 use Rattle.field.specs.Standing.{field_bytes}

@@ -15,7 +15,7 @@ use Rattle.wire.specs.declared.view.View.{View}
 use Rattle.wire.specs.declared.view.OptView.{OptView}
 use Rattle.wire.specs.declared.view.OptView.TheVariants.{Absent, Present}
 use Rattle.wire.proofs.Numbers.{be_drop, of_be}
-use Rattle.field.specs.Fields.{Field, fixed}
+use Rattle.field.specs.Fields.{Field}
 use Rattle.field.specs.Standing.{Obeys}
 use Rattle.grammar.specs.Grammars.{How, as_view, as_opt, as_number, Row, Each, Views, Parts}
 use Rattle.grammar.specs.Splits.{AllObey}

@@ -1,7 +1,8 @@
 -- A closed form: fields, and then one that has to end with the body. RULES 2.9, 4.2; RFC 5246 4.3.
 -- Nothing is left over, so there is no tail; where the last field does not end with the body it is
 -- LengthValue, at the place where the field begins.
-use Rattle.refusal.specs.{ℕ, ◌≡◌, ◌⊎◌, List, ◌++◌, length, refusal, Answer, accepted, refused, then, giving, LengthValue, Refusal}
+use Rattle.std.specs.Prelude.{◌≡◌, ◌⊎◌, ◌++◌}
+use Rattle.refusal.specs.{ℕ, List, length, refusal, Answer, accepted, refused, then, giving, LengthValue, Refusal}
 use Rattle.wire.specs.{part_of, Bytes, View}
 use Rattle.field.specs.{Field, field_bytes, Obeys, view_of, NoneCloses, close_at}
 use Rattle.grammar.specs.Grammars.{Row, Each, Parts}

@@ -1,6 +1,7 @@
 -- Demand 3, its reading half, for every form: what is shown of the reading. RULES 0.3, 3.1, 3.10 to
 -- 3.12. Splits and lacks are those of `Splits.antt`, with no reader in them.
-use Rattle.refusal.specs.{ℕ, ◌+◌, ◌≤◌, ◌≡◌, Option, none, some, ◌⊎◌, List, [], ◌∷◌, length, refusal, accepted, refused, Incomplete, Tag, Refusal}
+use Rattle.std.specs.Prelude.{◌+◌, ◌≤◌, ◌≡◌, ◌⊎◌, ◌∷◌}
+use Rattle.refusal.specs.{ℕ, Option, none, some, List, [], length, refusal, accepted, refused, Incomplete, Tag, Refusal}
 use Rattle.wire.specs.{lookup, Bytes, be, OptView, Absent, View}
 use Rattle.field.specs.{Field, fixed, TooFew}
 use Rattle.grammar.specs.Grammars.{as_view, as_opt, as_number, Row, Each}

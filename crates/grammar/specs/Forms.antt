@@ -1,7 +1,8 @@
 -- What is handed out of a body as a value of the code, a hello's contents: RULES 3.9, 3.10, 3.12. A
 -- form has its grammar and the value made of what each row hands out; and a value tells what it was
 -- made of. From this, and with no reader, the pieces and the views that a value names.
-use Rattle.refusal.specs.{ℕ, ◌≤◌, List, [], ◌∷◌, true, false, drop, length, eqb, ◌≡◌, Option, none, some, refusal, Answer, then, refused, Tag, giving}
+use Rattle.std.specs.Prelude.{◌≤◌, ◌∷◌, ◌≡◌}
+use Rattle.refusal.specs.{ℕ, List, [], true, false, drop, length, eqb, Option, none, some, refusal, Answer, then, refused, Tag, giving}
 use Rattle.wire.specs.{pick, part_of, opt_part_of, lookup, be, bytes_of, number_at, OptView, Absent, Present, View}
 use Rattle.grammar.specs.Grammars.{How, as_view, as_opt, as_number, Row, Grammar, Each, each, gather, Views, Parts, Handed}
 use Rattle.grammar.specs.Splits.{Pieces, block_of}

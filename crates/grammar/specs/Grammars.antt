@@ -1,6 +1,7 @@
 -- A grammar is data: rows in order, and an optional last block. RULES 3.1: fields are checked in
 -- their order; 3.7, RFC 5246 7.4.1.4: extensions are a block.
-use Rattle.refusal.specs.{ℕ, List, [], ◌∷◌, Bool, Option}
+use Rattle.std.specs.Prelude.{◌∷◌}
+use Rattle.refusal.specs.{ℕ, List, [], Bool, Option}
 use Rattle.wire.specs.{OptView, View}
 use Rattle.field.specs.{Field}
 

@@ -1,7 +1,8 @@
 -- The grammars of the three hellos: RULES 3.2 to 3.5, 3.7 and 3.14; RFC 5246 7.4.1.2 (ClientHello),
 -- 7.4.1.3 (ServerHello), 7.4.1.4 (extensions), draft-ietf-tls-tls13-18 4.1.3 (the hello of draft
 -- 18).
-use Rattle.refusal.specs.{[], ◌∷◌, Bool, true, false, none, some}
+use Rattle.std.specs.Prelude.{◌∷◌}
+use Rattle.refusal.specs.{[], Bool, true, false, none, some}
 use Rattle.wire.specs.{pick}
 use Rattle.registry.specs.Limits.{random_length}
 use Rattle.field.specs.{Field, fixed, vector, sized, rule_of, SessionId, Ciphers, Methods}

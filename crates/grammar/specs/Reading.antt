@@ -1,6 +1,7 @@
 -- What reading by a grammar finds: the fields in order, then the block where it fits. RULES 3.1,
 -- 3.7. The first field that cannot be had refuses.
-use Rattle.refusal.specs.{ℕ, List, [], ◌∷◌, Option, none, some, Answer, accepted, refused, then, giving}
+use Rattle.std.specs.Prelude.{◌∷◌}
+use Rattle.refusal.specs.{ℕ, List, [], Option, none, some, Answer, accepted, refused, then, giving}
 use Rattle.wire.specs.{Absent, Present, Part}
 use Rattle.field.specs.{Field, step}
 use Rattle.grammar.specs.Grammars.{Row, Grammar, Views, Handed}

@@ -1,7 +1,8 @@
 -- What it is for a body to split by a grammar, or to lack a field of it, with no reader in it.
 -- RULES 9.4: fields, joined in their order with their lengths and the tail, are the body. Of one
 -- field the bytes, the parts it may have and its lack are in `field/specs/Standing.antt`.
-use Rattle.refusal.specs.{ℕ, ◌+◌, ◌≡◌, ◌⊎◌, List, [], ◌∷◌, ◌++◌, Option, none, some, length, Refusal}
+use Rattle.std.specs.Prelude.{◌+◌, ◌≡◌, ◌⊎◌, ◌∷◌, ◌++◌}
+use Rattle.refusal.specs.{ℕ, List, [], Option, none, some, length, Refusal}
 use Rattle.wire.specs.{part_of, OptView, Absent, Present}
 use Rattle.field.specs.{Field, field_bytes, Obeys, view_of, NoneAt, Lacks}
 use Rattle.grammar.specs.Grammars.{Row, Grammar, gather, Views, Parts, Handed}

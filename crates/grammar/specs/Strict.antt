@@ -2,7 +2,8 @@
 -- condition. RULES 3.14, 3.15. A split is exact where the rows that are to be filled have bytes and
 -- the tail has none; any other is LengthValue, at the first place that fails. Which rows these are
 -- is said beside the grammar, so that grammar, split and plain reading stay as they are.
-use Rattle.refusal.specs.{ℕ, ◌+◌, ◌≡◌, ◌⊎◌, List, [], ◌∷◌, Bool, true, ◌&&◌, Option, none, some, length, eqb, refusal, Answer, accepted, refused, then, LengthValue, Refusal}
+use Rattle.std.specs.Prelude.{◌+◌, ◌≡◌, ◌⊎◌, ◌∷◌, ◌&&◌}
+use Rattle.refusal.specs.{ℕ, List, [], Bool, true, Option, none, some, length, eqb, refusal, Answer, accepted, refused, then, LengthValue, Refusal}
 use Rattle.wire.specs.{pick, if_some, Bytes}
 use Rattle.field.specs.{field_bytes}
 use Rattle.grammar.specs.Grammars.{Row, Grammar, Each, Parts}

@@ -1,6 +1,7 @@
 -- The items of a list, and the one at a place: RULES 2.7, 2.8; RFC 5246 4.3. A list goes up to the
 -- first item that does not fit; from its count on there is NoSuch.
-use Rattle.refusal.specs.{ℕ, zero, suc, ◌≤◌, ◌≡◌, List, [], ◌∷◌, length, refusal, Answer, accepted, refused, or_else, NoSuch, giving}
+use Rattle.std.specs.Prelude.{◌≤◌, ◌≡◌, ◌∷◌}
+use Rattle.refusal.specs.{ℕ, zero, suc, List, [], length, refusal, Answer, accepted, refused, or_else, NoSuch, giving}
 use Rattle.wire.specs.{be, Number, Part}
 use Rattle.field.specs.{Field, step, least}
 

@@ -1,7 +1,8 @@
 -- What the bytes of a list are, with no reader in it: the items joined in order with their lengths,
 -- then a remainder at whose front no item stands. RULES 2.7, 2.8; RFC 5246 4.3. And what is shown
 -- of the items handed out.
-use Rattle.refusal.specs.{ℕ, suc, ◌+◌, ◌<◌, ◌≤◌, ◌≡◌, List, [], ◌∷◌, ◌++◌, map, length, refusal, accepted, refused, NoSuch}
+use Rattle.std.specs.Prelude.{◌+◌, ◌<◌, ◌≤◌, ◌≡◌, ◌∷◌, ◌++◌}
+use Rattle.refusal.specs.{ℕ, suc, List, [], map, length, refusal, accepted, refused, NoSuch}
 use Rattle.wire.specs.{part_of, Part}
 use Rattle.field.specs.{Field, field_bytes, Obeys, NoneAt, view_of}
 use Rattle.list.specs.Items.{items, item_from, place}

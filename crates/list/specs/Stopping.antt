@@ -2,7 +2,8 @@
 -- there are is the length of the list; where they end and what is left over is said here, once for
 -- messages of every record type and for records. RULES 6.6, 6.10, 6.20. Shown of every such rule by
 -- `proofs/Stopping.antt`.
-use Rattle.refusal.specs.{ℕ, suc, ◌+◌, ◌-◌, ◌*◌, ◌≤◌, ◌≡◌, List, [], ◌∷◌, length, Answer, accepted, refused, Refusal}
+use Rattle.std.specs.Prelude.{◌+◌, ◌-◌, ◌*◌, ◌≤◌, ◌≡◌, ◌∷◌}
+use Rattle.refusal.specs.{ℕ, suc, List, [], length, Answer, accepted, refused, Refusal}
 use Rattle.list.specs.Items.{items_from, place, or_no_such}
 
 -- the byte past all of them, the first beginning at a byte

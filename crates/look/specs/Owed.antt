@@ -1,6 +1,7 @@
 -- A message that is begun in one record and goes on in the next, and how many of its bytes are
 -- owed: RULES 6.13.
-use Rattle.refusal.specs.{ℕ, ◌-◌, Bool, List, length, drop, eqb, ltb}
+use Rattle.std.specs.Prelude.{◌-◌}
+use Rattle.refusal.specs.{ℕ, Bool, List, length, drop, eqb, ltb}
 use Rattle.registry.specs.Types.{handshake_record}
 use Rattle.wire.specs.{pick}
 use Rattle.record_walk.specs.Walks.{messages, past_all}

@@ -1,5 +1,6 @@
 -- What stands behind a ChangeCipherSpec, and is taken for encrypted: RULES 6.21.
-use Rattle.refusal.specs.{ℕ, Bool, true, false, ◌||◌, ◌&&◌, eqb, Answer, accepted, refused}
+use Rattle.std.specs.Prelude.{◌||◌, ◌&&◌}
+use Rattle.refusal.specs.{ℕ, Bool, true, false, eqb, Answer, accepted, refused}
 use Rattle.registry.specs.Types.{change_cipher_spec_record, alert_record, handshake_record, heartbeat_record}
 use Rattle.record_open.specs.declared.TlsPlaintext.{TlsPlaintext}
 

@@ -1,6 +1,6 @@
 -- The sums of the summary of `look`, record by record: RULES 6.14.
-use Rattle.std.specs.Prelude.{◌%◌, ◌^◌}
-use Rattle.refusal.specs.{ℕ, ◌+◌, List, Bool, length, drop, eqb, Answer, accepted, refused}
+use Rattle.std.specs.Prelude.{◌%◌, ◌^◌, ◌+◌}
+use Rattle.refusal.specs.{ℕ, List, Bool, length, drop, eqb, Answer, accepted, refused}
 use Rattle.registry.specs.Types.{handshake_record}
 use Rattle.wire.specs.{pick}
 use Rattle.record_walk.specs.Walks.{messages, past_all}

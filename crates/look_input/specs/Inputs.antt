@@ -1,6 +1,7 @@
 -- What the bytes that a person hands to the program `look` seem to be, by their first four bytes:
 -- RULES 6.12.
-use Rattle.refusal.specs.{ℕ, List, [], ◌∷◌, Bool, ◌||◌, ◌&&◌, length, get_or, leb, eqb}
+use Rattle.std.specs.Prelude.{◌∷◌, ◌||◌, ◌&&◌}
+use Rattle.refusal.specs.{ℕ, List, [], Bool, length, get_or, leb, eqb}
 use Rattle.wire.specs.{pick, be}
 use Rattle.look_input.specs.Marks.{pcap, pcap_swapped, pcap_nano, pcap_nano_swapped, pcap_ng, gzip_id1, gzip_id2, gzip_deflate, type_low, type_high, dtls_major, ssl2_top, ssl2_last, ssl2_client_hello, ssl2_major, tls_major, space, tab, line_feed, carriage_return, colon}
 use Rattle.look_input.specs.declared.InputKind.{InputKind}

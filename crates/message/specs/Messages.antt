@@ -1,7 +1,8 @@
 -- What is said of a message by its kind, each once: where its reader leaves bytes of the body over
 -- (RULES 5.3: they are dropped, and it is told where they begin), its number and type (RULES 5.4),
 -- and whether it is written (RULES 0.5, 7.1); and the answer of a reader of messages.
-use Rattle.refusal.specs.{ℕ, ◌+◌, Option, none, some, eqb, unplaced, Answer, accepted, refused, NotYetImplemented}
+use Rattle.std.specs.Prelude.{◌+◌}
+use Rattle.refusal.specs.{ℕ, Option, none, some, eqb, unplaced, Answer, accepted, refused, NotYetImplemented}
 use Rattle.registry.specs.Types.{hello_request_type, client_hello_type, server_hello_type, new_session_ticket_type, end_of_early_data_type, hello_retry_request_type, certificate_type, server_key_exchange_type, certificate_request_type, server_done_type, certificate_verify_type, client_key_exchange_type, finished_type, certificate_status_type, next_protocol_type, key_update_type}
 use Rattle.registry.specs.Versions.{tls13_draft18}
 use Rattle.wire.specs.{pick, View}

@@ -1,6 +1,7 @@
 -- The value back from what is told of it: each part begins at a sum of lengths that are told, so
 -- that nothing is lost. RULES 1.7, 3.11. Shown by `proofs/BodiesBack.antt`.
-use Rattle.refusal.specs.{ℕ, ◌+◌, ◌*◌, ◌/◌, ◌<◌, ◌≤◌, ◌≡◌, List, length, refusal, accepted, refused, NoSuch}
+use Rattle.std.specs.Prelude.{◌+◌, ◌*◌, ◌/◌, ◌<◌, ◌≤◌, ◌≡◌}
+use Rattle.refusal.specs.{ℕ, List, length, refusal, accepted, refused, NoSuch}
 use Rattle.wire.specs.{pick, be, OptView, Absent, Present, Part}
 use Rattle.field.specs.{fixed, sized}
 use Rattle.grammar.specs.{reading}

@@ -1,6 +1,7 @@
 -- What is told of an alert and of a heartbeat: RULES 1.7, 6.16, 6.18; and that the messages of a
 -- record of each type follow from what is told. Shown by `proofs/ContentsBack.antt`.
-use Rattle.refusal.specs.{ℕ, ◌+◌, ◌-◌, ◌*◌, ◌<◌, ◌≡◌, List, [], ◌∷◌, map, get_or, length, Answer, accepted, refused, number_of, giving}
+use Rattle.std.specs.Prelude.{◌+◌, ◌-◌, ◌*◌, ◌<◌, ◌≡◌, ◌∷◌}
+use Rattle.refusal.specs.{ℕ, List, [], map, get_or, length, Answer, accepted, refused, number_of, giving}
 use Rattle.list.specs.{go_on_of, place}
 use Rattle.envelope.specs.{Met}
 use Rattle.content.specs.{TlsMessage, TlsMessageAlert, TlsMessageHeartbeat, Handshake, ChangeCipherSpec, Alert, ApplicationData, Heartbeat, heartbeat_in}

@@ -1,7 +1,8 @@
 -- What is told of an extension block, of an extension and of a server name: RULES 1.7, 11.15. Of a
 -- block the items that can be had from its front, which are all of them, or as many as the index of
 -- the first bad one; of an extension its type and its content, which ends where it ends.
-use Rattle.refusal.specs.{ℕ, ◌+◌, ◌<◌, ◌≡◌, List, Answer, accepted, refused, number_of}
+use Rattle.std.specs.Prelude.{◌+◌, ◌<◌, ◌≡◌}
+use Rattle.refusal.specs.{ℕ, List, Answer, accepted, refused, number_of}
 use Rattle.wire.specs.{Bytes}
 use Rattle.list.specs.declared.tagged.Tagged.{Tagged}
 use Rattle.read_ext.specs.Extensions.{InBlock, sound, damaged, extension_of, extension_from, extension_place, name_from}

@@ -1,7 +1,8 @@
 -- Records and messages from what is told of their heads: RULES 1.7. Where content and body lie
 -- follows from the told numbers, and a message or a record is opened where its head is told and the
 -- body of a handshake message is opened by the type. Shown by `proofs/HeadsBack.antt`.
-use Rattle.refusal.specs.{ℕ, ◌+◌, ◌≤◌, ◌≡◌, List, length, eqb, Answer, accepted, then, giving}
+use Rattle.std.specs.Prelude.{◌+◌, ◌≤◌, ◌≡◌}
+use Rattle.refusal.specs.{ℕ, List, length, eqb, Answer, accepted, then, giving}
 use Rattle.registry.specs.Types.{handshake_record}
 use Rattle.wire.specs.{pick, part_of}
 use Rattle.grammar.specs.{reading}

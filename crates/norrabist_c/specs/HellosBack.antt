@@ -1,6 +1,7 @@
 -- The told numbers are the whole value: RULES 1.7. Each part of a hello is where the lengths before
 -- it say, so that a caller makes the value of them alone. Shown by `proofs/HellosBack.antt`.
-use Rattle.refusal.specs.{ℕ, ◌+◌, ◌≡◌, List, Bool, eqb, accepted}
+use Rattle.std.specs.Prelude.{◌+◌, ◌≡◌}
+use Rattle.refusal.specs.{ℕ, List, Bool, eqb, accepted}
 use Rattle.registry.specs.Versions.{tls13_draft18}
 use Rattle.wire.specs.{pick, OptView, Absent, Present}
 use Rattle.grammar.specs.{reading, by_version}

@@ -1,6 +1,7 @@
 -- What a refusal carries, by the number of the reader: RULES 1.7. A number below 0x0100 is a
 -- handshake type, and its reader the one that opens such a body.
-use Rattle.refusal.specs.{ℕ, ◌-◌, ◌%◌, List, [], ◌∷◌, ◌&&◌, leb, ltb, Answer, accepted, refused, number_of, giving}
+use Rattle.std.specs.Prelude.{◌-◌, ◌%◌, ◌∷◌, ◌&&◌}
+use Rattle.refusal.specs.{ℕ, List, [], leb, ltb, Answer, accepted, refused, number_of, giving}
 use Rattle.wire.specs.{pick, lookup, if_some}
 use Rattle.grammar.specs.{reading, by_version}
 use Rattle.list.specs.{or_no_such}

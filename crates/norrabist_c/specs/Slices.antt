@@ -1,7 +1,8 @@
 -- What is written of slices is what is written of a message whose parts they are: RULES 7.1, 7.3.
 -- So what is shown of `handshake_text`, the text of a message with the bytes that its parts lie in,
 -- holds of every message that an export writes.
-use Rattle.refusal.specs.{ℕ, ◌≡◌, List, Bool, true, false, some, Answer, refused, unplaced, number_of, BadLength, NotYetImplemented}
+use Rattle.std.specs.Prelude.{◌≡◌}
+use Rattle.refusal.specs.{ℕ, List, Bool, true, false, some, Answer, refused, unplaced, number_of, BadLength, NotYetImplemented}
 use Rattle.wire.specs.{if_some, part_of, opt_part_of, lies_in}
 use Rattle.read_client.specs.{client}
 use Rattle.read_server.specs.{server, draft18}

@@ -1,7 +1,8 @@
 -- What an export that writes answers: RULES 1.5, 1.7. The table's number of writing the text at the
 -- front of the output, and how many bytes the text has: with NoRoom too, so that a caller who lends
 -- no output learns how much it needs; 0 where none may be written.
-use Rattle.refusal.specs.{ℕ, List, [], ◌∷◌, Answer, accepted, number_in, number_of, NotYetImplemented}
+use Rattle.std.specs.Prelude.{◌∷◌}
+use Rattle.refusal.specs.{ℕ, List, [], Answer, accepted, number_in, number_of, NotYetImplemented}
 use Rattle.registry.specs.Types.{hello_request_type, client_hello_type, server_hello_type, client_key_exchange_type, finished_type}
 use Rattle.registry.specs.Versions.{tls13_draft18}
 use Rattle.wire.specs.{lookup, if_some, room}

@@ -1,6 +1,7 @@
 -- The ServerHello as a message, of draft 18 or not: RULES 3.6; RFC 5246 7.4.1.3,
 -- draft-ietf-tls-tls13-18 4.1.3.
-use Rattle.refusal.specs.{ℕ, ◌≤◌, ◌≡◌, List, length, eqb, refusal, Answer, refused, then, giving, Tag}
+use Rattle.std.specs.Prelude.{◌≤◌, ◌≡◌}
+use Rattle.refusal.specs.{ℕ, List, length, eqb, refusal, Answer, refused, then, giving, Tag}
 use Rattle.wire.specs.{pick, be, number_at}
 use Rattle.registry.specs.Versions.{tls13_draft18}
 use Rattle.grammar.specs.{reading, by_version}

@@ -1,6 +1,7 @@
 -- The bodies that speak of certificates, Certificate, CertificateRequest and CertificateStatus:
 -- RULES 4.4, 4.7 to 4.10; RFC 5246 7.4.2, 7.4.4, RFC 6066 8.
-use Rattle.refusal.specs.{ℕ, ◌≡◌, Bool, true, false, List, [], ◌∷◌, none, refusal, Answer, accepted, refused, or_else, Complete, Refusal}
+use Rattle.std.specs.Prelude.{◌≡◌, ◌∷◌}
+use Rattle.refusal.specs.{ℕ, Bool, true, false, List, [], none, refusal, Answer, accepted, refused, or_else, Complete, Refusal}
 use Rattle.wire.specs.{pick, Absent}
 use Rattle.field.specs.{fixed, sized}
 use Rattle.grammar.specs.{as_view, as_opt, as_number, Pieces, Split, handed_of, FirstLacks, Form, value_of, reading}

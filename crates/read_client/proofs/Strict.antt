@@ -1,6 +1,6 @@
 -- Demand 3, its reading half, of the strict ClientHello, an instance of the one theorem; and the
 -- strict reading goes by what `exactness` tells. Assumes nothing.
-use Prim.Native.Nat.{ℕ, ◌-◌, ◌≤◌}
+use Prim.Native.Nat.{ℕ, ◌≤◌}
 use mathlib.Core.Path.{◌≡◌, refl, sym, ap, ◌∙◌}
 use mathlib.Core.Bool.{Bool, true, false}
 use mathlib.Core.List.{List}

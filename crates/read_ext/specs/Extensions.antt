@@ -1,6 +1,7 @@
 -- An extension block, read: RULES 11; RFC 5246 7.4.1.4. Its items fill it, each with data of its
 -- kind, or the block is refused as a whole, with the index of the first item that cannot be had.
-use Rattle.refusal.specs.{ℕ, ◌-◌, ◌≡◌, List, Bool, length, eqb, Option, none, some, refusal, Answer, accepted, refused, then, Refusal, LengthValue, giving}
+use Rattle.std.specs.Prelude.{◌-◌, ◌≡◌}
+use Rattle.refusal.specs.{ℕ, List, Bool, length, eqb, Option, none, some, refusal, Answer, accepted, refused, then, Refusal, LengthValue, giving}
 use Rattle.refusal.specs.Answers.{TellSame}
 use Rattle.wire.specs.{pick, number_at, Number, View}
 use Rattle.field.specs.Standing.{place_of}

@@ -1,7 +1,8 @@
 -- What the data of an extension has to be, by its type: RULES 11.3; RFC 6066 3, 4, RFC 8422 5.1.1.
 -- A kind is a field that has to be the data to the last byte (`field/specs/Closing.antt`), and what
 -- may stand in it. So the rules of lengths are said and shown once, of any kind.
-use Rattle.refusal.specs.{ℕ, ◌≡◌, ◌⊎◌, List, [], ◌∷◌, Bool, true, false, length, refusal, Answer, accepted, refused, LengthValue}
+use Rattle.std.specs.Prelude.{◌≡◌, ◌⊎◌, ◌∷◌}
+use Rattle.refusal.specs.{ℕ, List, [], Bool, true, false, length, refusal, Answer, accepted, refused, LengthValue}
 use Rattle.registry.specs.Extensions.{server_name_ext, max_fragment_length_ext, supported_groups_ext}
 use Rattle.wire.specs.{if_some, lookup, part_of, Bytes, Part}
 use Rattle.field.specs.{Field, fixed, vector, sized, rule_of, Ciphers, close_at}

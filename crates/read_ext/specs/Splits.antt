@@ -1,7 +1,8 @@
 -- What it is for a block to be made of extensions, with no reader in it, and what is shown of it:
 -- RULES 11.5; RFC 5246 7.4.1.4. An extension is its type and its content; its data is the content
 -- in the field of its kind.
-use Rattle.refusal.specs.{ℕ, suc, ◌+◌, ◌^◌, ◌<◌, ◌≤◌, ◌≡◌, ◌⊎◌, List, [], ◌∷◌, ◌++◌, map, true, length, refusal, accepted, refused, Refusal, LengthValue, NoSuch}
+use Rattle.std.specs.Prelude.{◌+◌, ◌^◌, ◌<◌, ◌≤◌, ◌≡◌, ◌⊎◌, ◌∷◌, ◌++◌}
+use Rattle.refusal.specs.{ℕ, suc, List, [], map, true, length, refusal, accepted, refused, Refusal, LengthValue, NoSuch}
 use Rattle.wire.specs.{part_of, Bytes}
 use Rattle.field.specs.{field_bytes, Obeys}
 use Rattle.registry.specs.Extensions.{server_name_ext, max_fragment_length_ext, supported_groups_ext}

@@ -1,6 +1,7 @@
 -- The bodies of a HelloRetryRequest, a NewSessionTicket and a NextProtocol: RULES 4.2, 4.3, 4.11;
 -- draft-ietf-tls-tls13-18 4.1.4, RFC 5077 3.3, draft-agl-tls-nextprotoneg-03.
-use Rattle.refusal.specs.{ℕ, ◌+◌, ◌-◌, ◌<◌, ◌≤◌, ◌≡◌, List, [], ◌∷◌, ◌++◌, none, some, ltb, length, take, drop, refusal, Answer, accepted, refused, then, Incomplete, Verify, LengthValue, Refusal}
+use Rattle.std.specs.Prelude.{◌+◌, ◌-◌, ◌<◌, ◌≤◌, ◌≡◌, ◌∷◌, ◌++◌}
+use Rattle.refusal.specs.{ℕ, List, [], none, some, ltb, length, take, drop, refusal, Answer, accepted, refused, then, Incomplete, Verify, LengthValue, Refusal}
 use Rattle.wire.specs.{pick, part_of, be, bytes_of, Absent}
 use Rattle.field.specs.{fixed, sized, step, TooFew}
 use Rattle.grammar.specs.{as_view, as_number, version, cipher, extensions, Form, ClosedForm, closed, ByClosedSplit}

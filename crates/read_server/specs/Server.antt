@@ -1,6 +1,7 @@
 -- The ServerHello, and that of TLS 1.3 draft 18, as values: RULES 3.3 to 3.5; RFC 5246 7.4.1.3,
 -- draft-ietf-tls-tls13-18 4.1.3.
-use Rattle.refusal.specs.{[], ◌∷◌, Bool, true, false, Answer, accepted, refused}
+use Rattle.std.specs.Prelude.{◌∷◌}
+use Rattle.refusal.specs.{[], Bool, true, false, Answer, accepted, refused}
 use Rattle.registry.specs.Versions.{ssl30, tls10, tls11, tls12}
 use Rattle.grammar.specs.{server_hello, server_hello_draft18, Form, Listing}
 use Rattle.read_server.specs.declared.{tlsv12.ServerHelloAnswer.ServerHelloAnswer, tlsv12.TlsServerHelloContents.TlsServerHelloContents, tlsv13draft18.Draft18Answer.Draft18Answer, tlsv13draft18.TlsServerHelloV13Draft18Contents.TlsServerHelloV13Draft18Contents}

@@ -1,6 +1,7 @@
 -- What a ClientHello and a ServerHello begin with, version, random and session id: RULES 3.2, 3.3;
 -- RFC 5246 7.4.1.2, 7.4.1.3.
-use Rattle.refusal.specs.{[], ◌∷◌, none, Answer, accepted, refused}
+use Rattle.std.specs.Prelude.{◌∷◌}
+use Rattle.refusal.specs.{[], none, Answer, accepted, refused}
 use Rattle.wire.specs.{Absent}
 use Rattle.grammar.specs.{version, random, session_id_of, Form}
 use Rattle.read_start.specs.declared.{Start.Start, StartAnswer.StartAnswer}

@@ -1,6 +1,7 @@
 -- Records that are not opened: RULES 6.1 to 6.3; RFC 5246 6.2.1. The rule of the length is
 -- `Fragment` of `field/specs/Fields.antt`.
-use Rattle.refusal.specs.{ℕ, List, [], ◌∷◌, none, Answer, accepted, refused, then, giving}
+use Rattle.std.specs.Prelude.{◌∷◌}
+use Rattle.refusal.specs.{ℕ, List, [], none, Answer, accepted, refused, then, giving}
 use Rattle.wire.specs.{number_at, Absent}
 use Rattle.field.specs.{Field, fixed, vector, rule_of, Fragment}
 use Rattle.grammar.specs.{as_view, as_number, Form, reading}

@@ -1,7 +1,8 @@
 -- Joined records: the record at a place, all of them from the front on, and places counted from
 -- there. RULES 6.10. Each is a record of
 -- `record/specs/Records.antt`.
-use Rattle.refusal.specs.{ℕ, ◌+◌, List, foldl, foldr, length, drop, eqb, Answer, giving, ◌≤◌, ◌≡◌}
+use Rattle.std.specs.Prelude.{◌+◌, ◌≤◌, ◌≡◌}
+use Rattle.refusal.specs.{ℕ, List, foldl, foldr, length, drop, eqb, Answer, giving}
 use Rattle.registry.specs.Types.{handshake_record}
 use Rattle.wire.specs.{pick, part_of, View, lies_in}
 use Rattle.grammar.specs.{reading}

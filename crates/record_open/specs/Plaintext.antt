@@ -1,5 +1,6 @@
 -- The plaintext record, opened by its type: RULES 6.2, 6.4 to 6.6, 6.9, 6.19; RFC 5246 6.2.1.
-use Rattle.refusal.specs.{ℕ, Bool, ◌&&◌, List, length, eqb, leb, number_of, refusal, inside, Answer, accepted, refused, then, Complete, Switch, Refusal, giving, Incomplete}
+use Rattle.std.specs.Prelude.{◌&&◌}
+use Rattle.refusal.specs.{ℕ, Bool, List, length, eqb, leb, number_of, refusal, inside, Answer, accepted, refused, then, Complete, Switch, Refusal, giving, Incomplete}
 use Rattle.registry.specs.Types.{change_cipher_spec_record, heartbeat_record}
 use Rattle.wire.specs.{pick, part_of}
 use Rattle.grammar.specs.{reading}

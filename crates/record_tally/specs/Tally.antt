@@ -1,6 +1,7 @@
 -- What is counted of the hellos of a handshake record's content, and how many bytes of its body a
 -- message lacks. RULES 6.11, with 3.4, 3.7, 3.12, 5.1 and 6.6.
-use Rattle.refusal.specs.{ℕ, ◌+◌, ◌-◌, List, foldr, length, leb, ltb, eqb}
+use Rattle.std.specs.Prelude.{◌+◌, ◌-◌}
+use Rattle.refusal.specs.{ℕ, List, foldr, length, leb, ltb, eqb}
 use Rattle.registry.specs.Versions.{ssl30}
 use Rattle.wire.specs.{pick, be, OptView, Absent, Present}
 use Rattle.read_server.specs.{TlsServerHelloContents}

@@ -1,5 +1,6 @@
 -- What is shown of the walk over every content: RULES 6.6 to 6.8. Shown by `proofs/Walking.antt`.
-use Rattle.refusal.specs.{ℕ, suc, ◌+◌, ◌*◌, ◌<◌, ◌≤◌, ◌≡◌, List, [], ◌∷◌, length, refusal, accepted, refused, NoSuch, Refusal, giving}
+use Rattle.std.specs.Prelude.{◌+◌, ◌*◌, ◌<◌, ◌≤◌, ◌≡◌, ◌∷◌}
+use Rattle.refusal.specs.{ℕ, suc, List, [], length, refusal, accepted, refused, NoSuch, Refusal, giving}
 use Rattle.list.specs.{items_from, place}
 use Rattle.envelope.specs.{Met, met_at}
 use Rattle.record_walk.specs.Walks.{messages, dropped, next_message, moved, walk_after}

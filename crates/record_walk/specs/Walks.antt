@@ -1,6 +1,7 @@
 -- The messages of a handshake record's content, and the walk over them: RULES 6.6 to 6.8; RFC 5246
 -- 6.2.1.
-use Rattle.refusal.specs.{ℕ, zero, suc, ◌≡◌, List, length, Answer, accepted, refused, giving}
+use Rattle.std.specs.Prelude.{◌≡◌}
+use Rattle.refusal.specs.{ℕ, zero, suc, List, length, Answer, accepted, refused, giving}
 use Rattle.list.specs.{items_from, or_no_such, end_of, left_over_of}
 use Rattle.message.specs.{TlsMessageHandshake}
 use Rattle.envelope.specs.{Met, by_type, met_at, TlsMessageHead}

@@ -1,6 +1,7 @@
 -- An answer, which is a value or one refusal: RULES 0.1, 9.1, 10.16. Each answer of the code that
 -- is an enum has its `Says`, by cases, into this: the table's number and the values.
-use Rattle.refusal.specs.Words.{ℕ, ◌≡◌, Option, none, some}
+use Rattle.std.specs.Prelude.{◌≡◌}
+use Rattle.refusal.specs.Words.{ℕ, Option, none, some}
 use Rattle.refusal.specs.Refusals.{number_of, inside}
 use Rattle.refusal.specs.declared.Refusal.{Refusal}
 

@@ -1,7 +1,8 @@
 pub mod Words
 pub mod Refusals
 pub mod Answers
-pub use Words.{ℕ, ◌+◌, ◌-◌, zero, suc, ◌*◌, ◌/◌, ◌%◌, ◌^◌, ◌<◌, ◌≤◌, ◌≡◌, Option, none, some, List, [], ◌∷◌, ◌++◌, map, foldl, foldr, Bool, true, false, ◌||◌, ◌&&◌, length, take, drop, get_or, replicate, leb, eqb, ltb, ◌⊎◌}
+pub use Rattle.std.specs.Prelude.{◌+◌, ◌-◌, ◌*◌, ◌/◌, ◌%◌, ◌^◌, ◌<◌, ◌≤◌, ◌≡◌, ◌∷◌, ◌++◌, ◌||◌, ◌&&◌, ◌⊎◌}
+pub use Words.{ℕ, zero, suc, Option, none, some, List, [], map, foldl, foldr, Bool, true, false, length, take, drop, get_or, replicate, leb, eqb, ltb}
 pub use Refusals.{number_of, NumbersApart, OneOf, refusal, unplaced, inside}
 pub use Answers.{Answer, accepted, refused, number_in, values_in, OneResult, then, giving, or_else, within}
 pub use declared.{Reason.Reason, Refusal.Refusal}

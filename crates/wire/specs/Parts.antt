@@ -1,6 +1,7 @@
 -- Parts of the bytes lent: what a view names, and the bytes from a place on. RULES 2.6: a view that
 -- does not lie within the bytes gives the empty part.
-use Rattle.refusal.specs.{ℕ, ◌+◌, ◌-◌, List, [], ◌∷◌, Bool, true, false, Option, none, some, length, take, drop, leb, eqb, refusal, Answer, accepted, refused, Reason, Refusal}
+use Rattle.std.specs.Prelude.{◌+◌, ◌-◌, ◌∷◌}
+use Rattle.refusal.specs.{ℕ, List, [], Bool, true, false, Option, none, some, length, take, drop, leb, eqb, refusal, Answer, accepted, refused, Reason, Refusal}
 use Rattle.wire.specs.declared.{view.OptView.OptView, view.Part.Part, view.PartAnswer.PartAnswer, view.View.View}
 use Rattle.wire.specs.declared.view.OptView.TheVariants.{Absent, Present}
 

@@ -1,6 +1,7 @@
 -- Writing into a lent buffer: RULES 1.5. A refused write leaves each byte as it was lent; an
 -- accepted one puts its text in, tells the place past it, and leaves the others.
-use Rattle.refusal.specs.{ℕ, ◌+◌, List, ◌++◌, length, take, drop, leb, unplaced, Answer, accepted, refused, NoRoom}
+use Rattle.std.specs.Prelude.{◌+◌, ◌++◌}
+use Rattle.refusal.specs.{ℕ, List, length, take, drop, leb, unplaced, Answer, accepted, refused, NoRoom}
 use Rattle.wire.specs.Parts.{pick, part_or}
 use Rattle.wire.specs.declared.{output.WriteAnswer.WriteAnswer, view.Part.Part}
 

@@ -1,5 +1,6 @@
 -- The messages of a record, written, by their kinds: RULES 7.13 to 7.15; RFC 5246 7.1, 7.2.
-use Rattle.refusal.specs.{ℕ, List, [], ◌∷◌, unplaced, Answer, accepted, refused, BadLength}
+use Rattle.std.specs.Prelude.{◌∷◌}
+use Rattle.refusal.specs.{ℕ, List, [], unplaced, Answer, accepted, refused, BadLength}
 use Rattle.wire.specs.{pick}
 use Rattle.message.specs.{not_written_of}
 use Rattle.write_message.specs.Written.{handshake_text}

@@ -1,6 +1,7 @@
 -- What is written of extensions: RULES 11.10 to 11.14; tls-parser's `gen_tls_extension` and
 -- `gen_tls_extensions`. A text is the finished bytes, or the refusal to write any.
-use Rattle.refusal.specs.{ℕ, ◌+◌, ◌%◌, ◌^◌, ◌≤◌, ◌≡◌, List, [], ◌∷◌, ◌++◌, map, Bool, ◌&&◌, true, false, length, ltb, eqb, unplaced, Answer, accepted, refused, then, giving, BadLength, NotYetImplemented}
+use Rattle.std.specs.Prelude.{◌+◌, ◌%◌, ◌^◌, ◌≤◌, ◌≡◌, ◌∷◌, ◌++◌, ◌&&◌}
+use Rattle.refusal.specs.{ℕ, List, [], map, Bool, true, false, length, ltb, eqb, unplaced, Answer, accepted, refused, then, giving, BadLength, NotYetImplemented}
 use Rattle.wire.specs.{pick, bytes_of, Part}
 use Rattle.field.specs.{fixed, sized, step, field_bytes, allowed, field_text}
 use Rattle.list.specs.{items_from}

@@ -1,7 +1,8 @@
 -- What is shown of a list that is written: RULES 11.12 to 11.14. When it is refused and with what,
 -- that reading gives it back, that a block that was read is written to the same bytes, and where
 -- the outer length ends it.
-use Rattle.refusal.specs.{ℕ, ◌+◌, ◌*◌, ◌%◌, ◌<◌, ◌≤◌, ◌≡◌, List, [], ◌∷◌, ◌++◌, map, true, false, Bool, ◌&&◌, length, drop, unplaced, accepted, refused, BadLength, NotYetImplemented}
+use Rattle.std.specs.Prelude.{◌+◌, ◌*◌, ◌%◌, ◌<◌, ◌≤◌, ◌≡◌, ◌∷◌, ◌++◌, ◌&&◌}
+use Rattle.refusal.specs.{ℕ, List, [], map, true, false, Bool, length, drop, unplaced, accepted, refused, BadLength, NotYetImplemented}
 use Rattle.wire.specs.{part_of, bytes_of, lies_in, Bytes}
 use Rattle.list.specs.Tagged.{tagged_bytes}
 use Rattle.list.specs.declared.tagged.Tagged.{Tagged}

@@ -1,7 +1,8 @@
 -- The body of a ClientKeyExchange, written: RULES 7.4; RFC 5246 7.4.7.2, RFC 8422 5.4, 5.7. The
 -- limit of the raw one, as that of Finished (RULES 7.5), is what a message's length can hold:
 -- `head_text`.
-use Rattle.refusal.specs.{ℕ, List, [], ◌∷◌, Answer, accepted, refused, unplaced, BadLength}
+use Rattle.std.specs.Prelude.{◌∷◌}
+use Rattle.refusal.specs.{ℕ, List, [], Answer, accepted, refused, unplaced, BadLength}
 use Rattle.wire.specs.{if_some, lookup}
 use Rattle.field.specs.{sized, field_text}
 use Rattle.write_rules.specs.{view_text, sized_text}

@@ -2,7 +2,8 @@
 -- finished bytes, or the refusal to write any. The bytes are the fields by which the hello is read,
 -- joined in order, and then the extensions, 00 00 where they are absent. The limits of RULES 7.2
 -- are the rules of the fields, `grammar/specs/Hellos.antt`.
-use Rattle.refusal.specs.{ℕ, List, ◌++◌, Bool, ◌&&◌, true, false, length, unplaced, Answer, accepted, refused, BadLength}
+use Rattle.std.specs.Prelude.{◌++◌, ◌&&◌}
+use Rattle.refusal.specs.{ℕ, List, Bool, true, false, length, unplaced, Answer, accepted, refused, BadLength}
 use Rattle.wire.specs.{pick, opt_part_of, Absent, Present, lies_in}
 use Rattle.field.specs.{Field, field_bytes, allowed}
 use Rattle.grammar.specs.{How, as_view, as_opt, as_number, gather, extensions, Form, Out, named}

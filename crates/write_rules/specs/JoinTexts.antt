@@ -1,7 +1,8 @@
 -- What is written of a hello whose parts are handed over apart, each a run of bytes of its own:
 -- RULES 7.2, 7.3, 7.6. It is the text of `HelloTexts.antt` where the parts that a value names all
 -- lie in the bytes lent with it: `proofs/Joins.antt`.
-use Rattle.refusal.specs.{ℕ, List, ◌++◌, Bool, ◌&&◌, false, length, unplaced, Answer, accepted, refused, BadLength}
+use Rattle.std.specs.Prelude.{◌++◌, ◌&&◌}
+use Rattle.refusal.specs.{ℕ, List, Bool, false, length, unplaced, Answer, accepted, refused, BadLength}
 use Rattle.wire.specs.{pick}
 use Rattle.field.specs.{field_bytes, allowed}
 use Rattle.grammar.specs.{as_opt, gather, join, extensions, Form}

@@ -1,6 +1,7 @@
 -- What is written of a message: RULES 5.1, 7.1, 7.3; RFC 5246 7.4. A body that is one part is the
 -- part, or the part behind its length.
-use Rattle.refusal.specs.{ℕ, List, ◌++◌, length, unplaced, Answer, accepted, refused, then, BadLength, giving}
+use Rattle.std.specs.Prelude.{◌++◌}
+use Rattle.refusal.specs.{ℕ, List, length, unplaced, Answer, accepted, refused, then, BadLength, giving}
 use Rattle.wire.specs.{pick, part_of, bytes_of, number_text, View, lies_in}
 use Rattle.field.specs.{sized, field_text}
 

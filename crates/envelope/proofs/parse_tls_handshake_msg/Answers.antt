@@ -88,22 +88,24 @@ unfolding opened
 returns-in-3 c =
     let k = c.args.msg_type in
     ap refused c.unplaced.ensures
-    ∙ sym (elim c.in-3-1.branch [ in-3-1 w ↦ lone k _ _ w.in-3-1.keys17
-    | in_default-1 w ↦ let m = w.in_default-1.rest in rw (
-      ne_eqb k 0x00 m.0.0.0.0.0.0.0.0.0.0.0.0.0.0.0.0.1,
-      ne_eqb k 0x01 m.0.0.0.0.0.0.0.0.0.0.0.0.0.0.0.1,
-      ne_eqb k 0x02 m.0.0.0.0.0.0.0.0.0.0.0.0.0.0.1,
-      ne_eqb k 0x04 m.0.0.0.0.0.0.0.0.0.0.0.0.0.1,
-      ne_eqb k 0x05 m.0.0.0.0.0.0.0.0.0.0.0.0.1,
-      ne_eqb k 0x06 m.0.0.0.0.0.0.0.0.0.0.0.1,
-      ne_eqb k 0x0b m.0.0.0.0.0.0.0.0.0.0.1,
-      ne_eqb k 0x0c m.0.0.0.0.0.0.0.0.0.1,
-      ne_eqb k 0x0d m.0.0.0.0.0.0.0.0.1,
-      ne_eqb k 0x0e m.0.0.0.0.0.0.0.1,
-      ne_eqb k 0x0f m.0.0.0.0.0.0.1,
-      ne_eqb k 0x10 m.0.0.0.0.0.1,
-      ne_eqb k 0x14 m.0.0.0.0.1,
-      ne_eqb k 0x16 m.0.0.0.1,
-      ne_eqb k 0x18 m.0.0.1,
-      ne_eqb k 0x43 m.0.1,
-    ) ])
+    ∙ sym (elim c.in-3-1.branch [
+      | in-3-1 w ↦ lone k _ _ w.in-3-1.keys17
+      | in_default-1 w ↦ let m = w.in_default-1.rest in rw (
+        ne_eqb k 0x00 m.0.0.0.0.0.0.0.0.0.0.0.0.0.0.0.0.1,
+        ne_eqb k 0x01 m.0.0.0.0.0.0.0.0.0.0.0.0.0.0.0.1,
+        ne_eqb k 0x02 m.0.0.0.0.0.0.0.0.0.0.0.0.0.0.1,
+        ne_eqb k 0x04 m.0.0.0.0.0.0.0.0.0.0.0.0.0.1,
+        ne_eqb k 0x05 m.0.0.0.0.0.0.0.0.0.0.0.0.1,
+        ne_eqb k 0x06 m.0.0.0.0.0.0.0.0.0.0.0.1,
+        ne_eqb k 0x0b m.0.0.0.0.0.0.0.0.0.0.1,
+        ne_eqb k 0x0c m.0.0.0.0.0.0.0.0.0.1,
+        ne_eqb k 0x0d m.0.0.0.0.0.0.0.0.1,
+        ne_eqb k 0x0e m.0.0.0.0.0.0.0.1,
+        ne_eqb k 0x0f m.0.0.0.0.0.0.1,
+        ne_eqb k 0x10 m.0.0.0.0.0.1,
+        ne_eqb k 0x14 m.0.0.0.0.1,
+        ne_eqb k 0x16 m.0.0.0.1,
+        ne_eqb k 0x18 m.0.0.1,
+        ne_eqb k 0x43 m.0.1,
+      )
+    ])

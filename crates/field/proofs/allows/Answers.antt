@@ -1,6 +1,5 @@
 -- `field::allows` meets its contract, case by case. Assumes nothing.
 use mathlib.Core.Path.{sym}
-use borrow.Author.Rules.{rules}
 use Rattle.field.proofs.Rules.{unless_is}
 use Rattle.field.proofs.allows.Goals as goal
 

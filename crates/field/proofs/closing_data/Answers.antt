@@ -9,7 +9,6 @@ use Rattle.field.specs.Fields.{rule_of}
 use Rattle.field.specs.Texts.{allows}
 use Rattle.field.proofs.Rules.{allows_none}
 use Rattle.field.proofs.Closing.{missing, unlike, fails_rule, like}
-use borrow.Author.Rules.{rules}
 use Rattle.field.proofs.closing_data.Goals as goal
 
 pub returns-in-Refused : goal.returns-in-Refused

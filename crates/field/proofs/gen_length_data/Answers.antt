@@ -9,7 +9,6 @@ use Rattle.wire.proofs.Parts.{room_fits}
 use Rattle.wire.proofs.Numbers.{width_bounds}
 use Rattle.field.specs.Fields.{rule_of}
 use Rattle.field.proofs.Texts.{below, vector_not, vector_out, vector_in}
-use borrow.Author.Rules.{rules}
 use Rattle.field.proofs.gen_length_data.Goals as goal
 
 pub overflow_add-count : goal.overflow_add-count

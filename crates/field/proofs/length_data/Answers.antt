@@ -5,7 +5,6 @@ use Rattle.refusal.proofs.Told.{case}
 use Rattle.wire.specs.Numbers.{number_says}
 use Rattle.field.specs.Fields.{rule_of, step}
 use Rattle.field.proofs.Rules.{allows_none, ruled_in}
-use borrow.Author.Rules.{rules}
 use Rattle.field.proofs.length_data.Goals as goal
 
 pub returns-in-Refused : goal.returns-in-Refused

@@ -1,6 +1,5 @@
 -- `field::may_follow` meets its contract: the width cannot hold the length, or the rule decides.
 -- Assumes nothing.
-use borrow.Author.Rules.{rules}
 use Rattle.field.proofs.may_follow.Goals as goal
 
 pub returns-then-width_holds : goal.returns-then-width_holds

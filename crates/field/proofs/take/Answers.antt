@@ -1,6 +1,5 @@
 -- `field::take` meets its contract, by that of `take_or`. Assumes nothing.
 use Rattle.field.specs.Fields.{step}
-use borrow.Author.Rules.{rules}
 use Rattle.field.proofs.take.Goals as goal
 
 pub returns : goal.returns

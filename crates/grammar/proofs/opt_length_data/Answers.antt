@@ -2,7 +2,6 @@
 use Rattle.refusal.proofs.Told.{case}
 use Rattle.wire.specs.Parts.{part_says}
 use Rattle.grammar.specs.Reading.{block_at}
-use borrow.Author.Rules.{rules}
 use Rattle.grammar.proofs.opt_length_data.Goals as goal
 
 pub returns-in-Refused : goal.returns-in-Refused

@@ -1,8 +1,7 @@
 -- `read_client::parse_tls_handshake_client_hello` meets its contract, field by field. Assumes
 -- nothing.
-use Prim.Native.Nat.{ℕ}
 use mathlib.Core.Path.{sym, ◌∙◌}
-use mathlib.Core.List.{List, [], ◌∷◌}
+use mathlib.Core.List.{[], ◌∷◌}
 use Rattle.refusal.proofs.Told.{case}
 use Rattle.wire.specs.Parts.{part_says}
 use Rattle.grammar.specs.Hellos.{ciphers, methods}
@@ -13,7 +12,6 @@ use Rattle.read_start.specs.Start.{start_says}
 use Rattle.read_client.specs.Client.{client}
 use Rattle.read_client.proofs.Whole.{demand3}
 use Rattle.read_start.proofs.Begun.{start_rows, Begun, begun, not_begun, after}
-use borrow.Author.Rules.{rules}
 use Rattle.read_client.proofs.parse_tls_handshake_client_hello.Goals as goal
 
 pub returns-in-Refused : goal.returns-in-Refused

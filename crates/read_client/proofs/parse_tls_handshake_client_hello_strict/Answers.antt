@@ -1,8 +1,6 @@
 -- `read_client::parse_tls_handshake_client_hello_strict` meets its contract: what the plain reader
 -- found, held to the three conditions. Assumes nothing.
-use Prim.Native.Nat.{ℕ}
 use mathlib.Core.Path.{◌≡◌, sym, ◌∙◌}
-use mathlib.Core.List.{List}
 use Rattle.refusal.specs.Answers.{accepted}
 use Rattle.refusal.proofs.Told.{case}
 use Rattle.wire.specs.Numbers.{Bytes}
@@ -11,7 +9,6 @@ use Rattle.grammar.specs.Hellos.{client_to_fill}
 use Rattle.grammar.specs.Strict.{ByExactSplit}
 use Rattle.read_client.specs.Client.{client, client_says}
 use Rattle.read_client.proofs.Strict.{strict_demand3, begins, by_case}
-use borrow.Author.Rules.{rules}
 use Rattle.read_client.proofs.parse_tls_handshake_client_hello_strict.Goals as goal
 
 pub returns-in-Refused : goal.returns-in-Refused

@@ -1,7 +1,6 @@
 -- `read_start::parse_start` meets its contract, field by field. Assumes nothing.
-use Prim.Native.Nat.{ℕ}
 use mathlib.Core.Path.{sym, ◌∙◌}
-use mathlib.Core.List.{List, [], ◌∷◌}
+use mathlib.Core.List.{[], ◌∷◌}
 use native.Mathlib.Omega.{arith}
 use Rattle.refusal.proofs.Told.{case}
 use Rattle.wire.specs.Parts.{part_says}
@@ -10,7 +9,6 @@ use Rattle.grammar.specs.Forms.{reading}
 use Rattle.grammar.proofs.Chain.{So, begin, and, stop, end}
 use Rattle.grammar.proofs.Numbers.{Found, found, not_found}
 use Rattle.read_start.specs.Start.{hello_start}
-use borrow.Author.Rules.{rules}
 use Rattle.read_start.proofs.parse_start.Goals as goal
 
 pub returns-in-Refused : goal.returns-in-Refused

@@ -1,19 +1,15 @@
 -- `list::items::item_at` meets its contract: after k turns the place asked for is k places nearer
 -- in what is left. Assumes nothing.
-use Prim.Native.Nat.{◌-◌, ◌≤◌}
+use Prim.Native.Nat.{◌-◌}
 use mathlib.Core.Path.{◌≡◌, sym, ap, ◌∙◌}
 use native.Mathlib.Omega.{arith}
 use native.Mathlib.Nat.{sub-zero}
-use borrow.Author.Rules.{rules}
 use Rattle.refusal.specs.Answers.{refused}
 use Rattle.refusal.proofs.Told.{case}
-use Rattle.wire.specs.Numbers.{bytes_in}
 use Rattle.wire.specs.Parts.{part_says}
 use Rattle.wire.proofs.Numbers.{width_bounds}
-use Rattle.field.specs.Fields.{sized}
-use Rattle.list.specs.Items.{items, place}
 use Rattle.list.proofs.Walk.{next, past_last}
-use Rattle.list.proofs.Fields.{left, by_steps, item_got, item_none, item_first}
+use Rattle.list.proofs.Fields.{by_steps, item_got, item_none, item_first}
 use Rattle.list.proofs.items.item_at.Goals as goal
 
 pub loop-k-init : goal.loop-k-init

@@ -1,9 +1,7 @@
 -- `list::items::item_count` meets its contract: what was counted and what is left are all the
 -- items. Assumes nothing.
-use Prim.Native.Nat.{◌+◌, ◌-◌, ◌≤◌}
-use mathlib.Core.Path.{◌≡◌, sym, ap, ◌∙◌}
+use mathlib.Core.Path.{sym, ap, ◌∙◌}
 use native.Mathlib.Omega.{arith}
-use borrow.Author.Rules.{rules}
 use lib.ListN.{length}
 use Rattle.refusal.proofs.Told.{case}
 use Rattle.wire.specs.Numbers.{bytes_in}
@@ -12,9 +10,8 @@ use Rattle.wire.proofs.Numbers.{width_bounds}
 use Rattle.wire.specs.declared.view.Part.{Part}
 use Rattle.field.specs.Fields.{step, sized}
 use Rattle.field.proofs.Rules.{step_in}
-use Rattle.list.specs.Items.{items}
 use Rattle.list.proofs.Walk.{rest_all, rest_on, rest_end}
-use Rattle.list.proofs.Fields.{left, by_steps, item_got, item_none}
+use Rattle.list.proofs.Fields.{by_steps, item_got, item_none}
 use Rattle.list.proofs.items.item_count.Goals as goal
 
 pub loop-p-init : goal.loop-p-init

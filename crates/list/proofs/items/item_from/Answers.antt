@@ -4,7 +4,6 @@ use Rattle.refusal.specs.Answers.{refused}
 use Rattle.refusal.proofs.Told.{case}
 use Rattle.wire.specs.Parts.{part_says}
 use Rattle.list.specs.Items.{item_from}
-use borrow.Author.Rules.{rules}
 use Rattle.list.proofs.items.item_from.Goals as goal
 
 pub returns-in-Refused : goal.returns-in-Refused

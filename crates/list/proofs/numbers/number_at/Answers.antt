@@ -6,7 +6,6 @@ use Rattle.refusal.specs.Answers.{refused}
 use Rattle.wire.specs.Numbers.{bytes_in}
 use Rattle.wire.proofs.Numbers.{width_bounds}
 use Rattle.list.proofs.Fixed.{number_below, number_past}
-use borrow.Author.Rules.{rules}
 use Rattle.list.proofs.numbers.number_at.Goals as goal
 
 pub returns-then-number_count-at : goal.returns-then-number_count-at

@@ -5,7 +5,6 @@ use native.Mathlib.Omega.{arith}
 use Rattle.wire.specs.Numbers.{bytes_in}
 use Rattle.wire.proofs.Numbers.{width_bounds}
 use Rattle.list.proofs.Fixed.{count_of}
-use borrow.Author.Rules.{rules}
 use Rattle.list.proofs.numbers.number_count.Goals as goal
 
 pub nonzero_div-result : goal.nonzero_div-result

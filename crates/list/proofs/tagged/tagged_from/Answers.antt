@@ -7,7 +7,6 @@ use Rattle.wire.specs.Numbers.{number_says}
 use Rattle.wire.specs.Parts.{part_says}
 use Rattle.wire.proofs.Numbers.{below_limit}
 use Rattle.list.proofs.Tags.{no_tag, no_data, both, data_below}
-use borrow.Author.Rules.{rules}
 use Rattle.list.proofs.tagged.tagged_from.Goals as goal
 
 pub returns-in-Refused : goal.returns-in-Refused

@@ -5,7 +5,6 @@ use Rattle.refusal.proofs.Told.{case}
 use Rattle.wire.specs.Parts.{part_says}
 use Rattle.grammar.proofs.Chain.{begin, and, stop, end}
 use Rattle.read_certs.specs.Certs.{certificate}
-use borrow.Author.Rules.{rules}
 use Rattle.read_certs.proofs.certificate.parse_tls_certificate.Goals as goal
 
 pub returns-in-Refused : goal.returns-in-Refused

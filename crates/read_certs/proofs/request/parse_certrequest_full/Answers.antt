@@ -1,9 +1,8 @@
 -- `read_certs::request::parse_certrequest_full` meets its contract, field by field. Assumes
 -- nothing.
-use Prim.Native.Nat.{ℕ}
 use mathlib.Core.Path.{sym}
 use mathlib.Core.Bool.{true}
-use mathlib.Core.List.{List, [], ◌∷◌}
+use mathlib.Core.List.{[], ◌∷◌}
 use Rattle.refusal.proofs.Told.{case}
 use Rattle.wire.specs.Parts.{part_says}
 use Rattle.field.specs.Fields.{sized}
@@ -11,7 +10,6 @@ use Rattle.grammar.specs.Grammars.{as_view, as_opt}
 use Rattle.grammar.specs.Forms.{reading}
 use Rattle.grammar.proofs.Chain.{So, begin, and, stop, end}
 use Rattle.read_certs.specs.Certs.{request}
-use borrow.Author.Rules.{rules}
 use Rattle.read_certs.proofs.request.parse_certrequest_full.Goals as goal
 
 pub returns-in-Refused : goal.returns-in-Refused

@@ -16,7 +16,6 @@ use Rattle.grammar.specs.Grammars.{as_view}
 use Rattle.grammar.specs.Forms.{reading}
 use Rattle.grammar.proofs.Chain.{So, begin, and, stop, end}
 use Rattle.read_certs.specs.Certs.{request}
-use borrow.Author.Rules.{rules}
 use Rattle.read_certs.proofs.request.parse_certrequest_nosigalg.Goals as goal
 
 -- a field of no bytes is found at every place

@@ -2,7 +2,6 @@
 -- else the short one, else Complete. Assumes nothing.
 use Rattle.refusal.proofs.Told.{case}
 use Rattle.read_certs.specs.Certs.{certificate_request, request_says}
-use borrow.Author.Rules.{rules}
 use Rattle.read_certs.proofs.request.parse_tls_handshake_certificaterequest.Goals as goal
 
 pub returns-in_default-parse_certrequest_nosigalg : goal.returns-in_default-parse_certrequest_nosigalg

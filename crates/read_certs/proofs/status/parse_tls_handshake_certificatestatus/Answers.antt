@@ -1,8 +1,7 @@
 -- `read_certs::status::parse_tls_handshake_certificatestatus` meets its contract, field by field.
 -- Assumes nothing.
-use Prim.Native.Nat.{ℕ}
 use mathlib.Core.Path.{sym, ◌∙◌}
-use mathlib.Core.List.{List, [], ◌∷◌}
+use mathlib.Core.List.{[], ◌∷◌}
 use native.Mathlib.Omega.{arith}
 use Rattle.refusal.proofs.Told.{case}
 use Rattle.wire.specs.Parts.{part_says}
@@ -12,7 +11,6 @@ use Rattle.grammar.specs.Forms.{reading}
 use Rattle.grammar.proofs.Chain.{So, begin, and, stop, end}
 use Rattle.grammar.proofs.Numbers.{Found, found, not_found}
 use Rattle.read_certs.specs.Certs.{status}
-use borrow.Author.Rules.{rules}
 use Rattle.read_certs.proofs.status.parse_tls_handshake_certificatestatus.Goals as goal
 
 pub returns-in-Refused : goal.returns-in-Refused

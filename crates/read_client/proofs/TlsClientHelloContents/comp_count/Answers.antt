@@ -1,6 +1,5 @@
 -- `read_client::TlsClientHelloContents::comp_count` meets its contract, by those of `part_of` and
 -- `number_count`. Assumes nothing.
-use borrow.Author.Rules.{rules}
 use Rattle.read_client.proofs.TlsClientHelloContents.comp_count.Goals as goal
 
 pub returns : goal.returns

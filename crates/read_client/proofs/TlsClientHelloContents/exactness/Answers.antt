@@ -1,7 +1,6 @@
 -- `read_client::TlsClientHelloContents::exactness` meets its contract, test by test. Assumes
 -- nothing.
 use borrow.Author.Tests.{eq-eqb, ne_eqb, le-leb, lt-leb}
-use borrow.Author.Rules.{rules}
 use Rattle.read_client.proofs.TlsClientHelloContents.exactness.Goals as goal
 
 pub returns-then-part_of-eq0 : goal.returns-then-part_of-eq0

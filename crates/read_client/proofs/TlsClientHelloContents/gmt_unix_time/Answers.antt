@@ -6,7 +6,6 @@ use lib.ListN.{length}
 use Rattle.refusal.proofs.Told.{case}
 use Rattle.wire.specs.Numbers.{number_says}
 use Rattle.wire.proofs.Numbers.{number_is, number_short, number_value, below_limit}
-use borrow.Author.Rules.{rules}
 use Rattle.read_client.proofs.TlsClientHelloContents.gmt_unix_time.Goals as goal
 
 pub overflow_cast-result : goal.overflow_cast-result

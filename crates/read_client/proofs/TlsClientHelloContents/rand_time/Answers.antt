@@ -3,7 +3,6 @@
 use native.Mathlib.Omega.{arith}
 use borrow.Author.Tests.{eq-eqb, ne_eqb, le-leb}
 use lib.ListN.{length}
-use borrow.Author.Rules.{rules}
 use Rattle.read_client.proofs.TlsClientHelloContents.rand_time.Goals as goal
 
 pub returns-then-random-ne4 : goal.returns-then-random-ne4

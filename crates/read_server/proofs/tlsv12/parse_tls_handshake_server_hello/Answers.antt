@@ -18,7 +18,6 @@ use Rattle.wire.specs.Parts.{lookup}
 use Rattle.read_server.specs.Server.{server, server_versions}
 use Rattle.read_server.proofs.Whole.{demand3_by_version}
 use Rattle.read_server.specs.declared.tlsv12.TlsServerHelloContents.{TlsServerHelloContents}
-use borrow.Author.Rules.{rules}
 use Rattle.read_server.proofs.tlsv12.parse_tls_handshake_server_hello.Goals as goal
 
 -- what is read by the form that the version announces is the answer

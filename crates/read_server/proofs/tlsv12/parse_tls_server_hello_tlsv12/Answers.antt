@@ -1,9 +1,8 @@
 -- `read_server::tlsv12::parse_tls_server_hello_tlsv12` meets its contract, field by field. Assumes
 -- nothing.
-use Prim.Native.Nat.{ℕ}
 use mathlib.Core.Path.{◌∙◌, sym}
 use mathlib.Core.Bool.{Bool}
-use mathlib.Core.List.{List, [], ◌∷◌}
+use mathlib.Core.List.{[], ◌∷◌}
 use native.Mathlib.Omega.{arith}
 use Rattle.refusal.proofs.Told.{case}
 use Rattle.grammar.specs.Hellos.{cipher, compression}
@@ -13,9 +12,8 @@ use Rattle.grammar.proofs.Chain.{So, begin, and, stop, stop_all, end}
 use Rattle.grammar.proofs.Numbers.{Found, found, not_found}
 use Rattle.read_start.specs.Start.{start_says}
 use Rattle.read_server.specs.Server.{server}
-use Rattle.read_server.proofs.Whole.{demand3, with_split}
+use Rattle.read_server.proofs.Whole.{demand3}
 use Rattle.read_start.proofs.Begun.{start_rows, Begun, begun, not_begun, after}
-use borrow.Author.Rules.{rules}
 use Rattle.read_server.proofs.tlsv12.parse_tls_server_hello_tlsv12.Goals as goal
 
 pub returns-in-Refused : goal.returns-in-Refused

@@ -1,8 +1,7 @@
 -- `read_server::tlsv13draft18::parse_tls_server_hello_tlsv13draft18` meets its contract, field by
 -- field. Assumes nothing.
-use Prim.Native.Nat.{ℕ}
 use mathlib.Core.Path.{◌∙◌, sym}
-use mathlib.Core.List.{List, [], ◌∷◌}
+use mathlib.Core.List.{[], ◌∷◌}
 use native.Mathlib.Omega.{arith}
 use Rattle.refusal.proofs.Told.{case}
 use Rattle.wire.specs.Parts.{part_says}
@@ -12,8 +11,7 @@ use Rattle.grammar.specs.Forms.{reading}
 use Rattle.grammar.proofs.Chain.{So, begin, and, stop, end}
 use Rattle.grammar.proofs.Numbers.{Found, found, not_found}
 use Rattle.read_server.specs.Server.{draft18}
-use Rattle.read_server.proofs.Whole.{demand3_draft18, with_split}
-use borrow.Author.Rules.{rules}
+use Rattle.read_server.proofs.Whole.{demand3_draft18}
 use Rattle.read_server.proofs.tlsv13draft18.parse_tls_server_hello_tlsv13draft18.Goals as goal
 
 pub returns-in-Refused : goal.returns-in-Refused

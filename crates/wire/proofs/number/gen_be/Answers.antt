@@ -6,7 +6,6 @@ use Rattle.refusal.proofs.Told.{case}
 use Rattle.wire.specs.Parts.{part_says}
 use Rattle.wire.proofs.Parts.{room_fits}
 use Rattle.wire.proofs.Puts.{number_over, number_out, number_put}
-use borrow.Author.Rules.{rules}
 use Rattle.wire.proofs.number.gen_be.Goals as goal
 
 pub returns-then-limit-n : goal.returns-then-limit-n

@@ -1,5 +1,4 @@
 -- `wire::number::limit` meets its contract, width by width. Assumes nothing.
-use borrow.Author.Rules.{rules}
 use Rattle.wire.proofs.number.limit.Goals as goal
 
 pub returns-in-One : goal.returns-in-One

@@ -5,7 +5,6 @@ use Rattle.refusal.proofs.Told.{case}
 use Rattle.wire.specs.Parts.{part_says}
 use Rattle.wire.proofs.Parts.{fits}
 use Rattle.wire.proofs.Numbers.{width_bounds, number_got, number_no}
-use borrow.Author.Rules.{rules}
 use Rattle.wire.proofs.number.parse_be.Goals as goal
 
 pub number_of-requires : goal.number_of-requires

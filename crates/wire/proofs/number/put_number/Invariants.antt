@@ -1,13 +1,10 @@
 -- `wire::number::put_number` meets its contract: what is still to be put, put into the buffer as it
 -- is, is the whole number put into the buffer as lent. Assumes nothing.
 use Prim.Native.Nat.{◌≤◌}
-use mathlib.Core.Path.{◌≡◌, sym, ◌∙◌}
-use native.Mathlib.Omega.{arith}
-use borrow.Author.Rules.{rules}
-use lib.ListN.{length, length-set}
+use mathlib.Core.Path.{◌≡◌}
+use lib.ListN.{length}
 use Rattle.wire.specs.Numbers.{bytes_of}
 use Rattle.wire.specs.Puts.{put}
-use Rattle.wire.proofs.Puts.{put_nil, number_next}
 use Rattle.wire.proofs.number.put_number.Given as goal
 
 abbrev pub invariant-loop-left : goal.invariant-loop-left

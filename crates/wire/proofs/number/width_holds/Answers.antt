@@ -1,5 +1,4 @@
 -- `wire::number::width_holds` meets its contract, by that of `limit`. Assumes nothing.
-use borrow.Author.Rules.{rules}
 use Rattle.wire.proofs.number.width_holds.Goals as goal
 
 pub returns : goal.returns

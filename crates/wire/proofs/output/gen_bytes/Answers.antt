@@ -5,7 +5,6 @@ use Rattle.refusal.proofs.Told.{case}
 use Rattle.wire.specs.Parts.{part_says}
 use Rattle.wire.proofs.Parts.{room_fits}
 use Rattle.wire.proofs.Puts.{text_in, text_out}
-use borrow.Author.Rules.{rules}
 use Rattle.wire.proofs.output.gen_bytes.Goals as goal
 
 pub put_bytes-requires : goal.put_bytes-requires

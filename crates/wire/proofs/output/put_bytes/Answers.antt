@@ -1,12 +1,9 @@
 -- `wire::output::put_bytes` meets its contract: the buffer is the one lent with the bytes so far
 -- put in. Assumes nothing.
-use Prim.Native.Nat.{◌-◌, ◌≤◌}
-use mathlib.Core.Path.{◌≡◌, refl, sym}
+use mathlib.Core.Path.{refl, sym}
 use native.Mathlib.Omega.{arith}
-use borrow.Author.Rules.{rules}
-use lib.ListN.{length, take, length-set}
+use lib.ListN.{length-set}
 use lib.Seq.{take_all}
-use Rattle.wire.specs.Puts.{put}
 use Rattle.wire.proofs.Puts.{put_nil, copy_next}
 use Rattle.wire.proofs.output.put_bytes.Goals as goal
 
@@ -14,12 +11,11 @@ pub loop-k-init : goal.loop-k-init
 loop-k-init c = (omega arith, sym (put_nil _ _), refl)
 
 pub loop-k-preserved : goal.loop-k-preserved
-loop-k-preserved c =
-    (
-      omega arith,
-      rw c.loop-k.invariant.1 (copy_next _ _ _ c.loop-k.k c.requires c.loop-k-test.true),
-      rw length-set c.loop-k.invariant.2,
-    )
+loop-k-preserved c = (
+  omega arith,
+  rw c.loop-k.invariant.1 (copy_next _ _ _ c.loop-k.k c.requires c.loop-k-test.true),
+  rw length-set c.loop-k.invariant.2,
+)
 
 pub returns : goal.returns
 returns c =

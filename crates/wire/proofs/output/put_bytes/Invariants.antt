@@ -1,13 +1,9 @@
 -- `wire::output::put_bytes` meets its contract: the buffer is the one lent with the bytes so far
 -- put in. Assumes nothing.
 use Prim.Native.Nat.{◌-◌, ◌≤◌}
-use mathlib.Core.Path.{◌≡◌, refl, sym}
-use native.Mathlib.Omega.{arith}
-use borrow.Author.Rules.{rules}
-use lib.ListN.{length, take, length-set}
-use lib.Seq.{take_all}
+use mathlib.Core.Path.{◌≡◌}
+use lib.ListN.{length, take}
 use Rattle.wire.specs.Puts.{put}
-use Rattle.wire.proofs.Puts.{put_nil, copy_next}
 use Rattle.wire.proofs.output.put_bytes.Given as goal
 
 abbrev pub invariant-loop-k : goal.invariant-loop-k

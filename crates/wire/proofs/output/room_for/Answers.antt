@@ -5,7 +5,6 @@ use Rattle.refusal.specs.Answers.{accepted, refused}
 use Rattle.refusal.proofs.Told.{case}
 use Rattle.wire.specs.Parts.{part_says}
 use Rattle.wire.proofs.Parts.{fits, short, room_in, room_out}
-use borrow.Author.Rules.{rules}
 use Rattle.wire.proofs.output.room_for.Goals as goal
 
 pub returns-in-Refused : goal.returns-in-Refused

@@ -1,7 +1,6 @@
 -- `wire::view::behind` meets its contract: the rest of a rest. Assumes nothing.
 use mathlib.Core.Path.{◌∙◌}
 use lib.Seq.{drop-drop}
-use borrow.Author.Rules.{rules}
 use Rattle.wire.proofs.view.behind.Goals as goal
 
 pub returns : goal.returns

@@ -7,7 +7,6 @@ use lib.ListN.{length}
 use Rattle.refusal.specs.Answers.{refused}
 use Rattle.refusal.specs.Refusals.{refusal}
 use Rattle.wire.proofs.Parts.{part_in, part_out}
-use borrow.Author.Rules.{rules}
 use Rattle.wire.proofs.view.take_or.Goals as goal
 
 pub returns-then-s-at : goal.returns-then-s-at

@@ -1,6 +1,5 @@
 -- `read_certs::certificate::TlsCertificateContents::cert_at` meets its contract, by those of
 -- `part_of` and `item_at`. Assumes nothing.
-use borrow.Author.Rules.{rules}
 use Rattle.read_certs.proofs.certificate.TlsCertificateContents.cert_at.Goals as goal
 
 pub returns : goal.returns

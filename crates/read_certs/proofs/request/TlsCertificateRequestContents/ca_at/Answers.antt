@@ -1,6 +1,5 @@
 -- `read_certs::request::TlsCertificateRequestContents::ca_at` meets its contract, by those of
 -- `part_of` and `item_at`. Assumes nothing.
-use borrow.Author.Rules.{rules}
 use Rattle.read_certs.proofs.request.TlsCertificateRequestContents.ca_at.Goals as goal
 
 pub returns : goal.returns

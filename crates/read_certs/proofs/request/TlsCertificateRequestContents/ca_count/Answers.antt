@@ -1,6 +1,5 @@
 -- `read_certs::request::TlsCertificateRequestContents::ca_count` meets its contract, by those of
 -- `part_of` and `item_count`. Assumes nothing.
-use borrow.Author.Rules.{rules}
 use Rattle.read_certs.proofs.request.TlsCertificateRequestContents.ca_count.Goals as goal
 
 pub returns : goal.returns

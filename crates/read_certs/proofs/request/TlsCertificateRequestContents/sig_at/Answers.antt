@@ -1,6 +1,5 @@
 -- `read_certs::request::TlsCertificateRequestContents::sig_at` meets its contract, by those of
 -- `opt_part_of` and `number_at`. Assumes nothing.
-use borrow.Author.Rules.{rules}
 use Rattle.read_certs.proofs.request.TlsCertificateRequestContents.sig_at.Goals as goal
 
 pub returns : goal.returns

@@ -1,6 +1,5 @@
 -- `read_certs::request::TlsCertificateRequestContents::sig_count` meets its contract, by those of
 -- `opt_part_of` and `number_count`. Assumes nothing.
-use borrow.Author.Rules.{rules}
 use Rattle.read_certs.proofs.request.TlsCertificateRequestContents.sig_count.Goals as goal
 
 pub returns : goal.returns

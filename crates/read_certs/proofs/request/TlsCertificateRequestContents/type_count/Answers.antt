@@ -1,6 +1,5 @@
 -- `read_certs::request::TlsCertificateRequestContents::type_count` meets its contract, by those of
 -- `part_of` and `number_count`. Assumes nothing.
-use borrow.Author.Rules.{rules}
 use Rattle.read_certs.proofs.request.TlsCertificateRequestContents.type_count.Goals as goal
 
 pub returns : goal.returns
