@@ -1,5 +1,7 @@
 // Extensions written (RULES 11.10 to 11.14), one by itself and a list of them behind its length:
 // the three kinds that are opened. A refusal changes no byte.
+#![tactic(auto)]
+
 ghost use Rattle.std.specs.Prelude.{[], ◌∷◌, ◌++◌, ◌≡◌, ◌+◌, ◌<◌, ◌≤◌, length};
 ghost use Rattle.field.specs.Fields.{sized};
 ghost use Rattle.field.specs.Standing.{field_bytes};
