@@ -16,7 +16,7 @@ use Rattle.refusal.proofs.Then.{not_both, then_refused}
 use Rattle.wire.specs.Parts.{pick}
 use Rattle.list.specs.Items.{items_from, place, or_no_such}
 use Rattle.list.specs.Stopping.{end_of}
-use Rattle.list.proofs.Walk.{Moves, rest, fuel, rest_on, rest_end, first, go_on, place_past, none, none_after}
+use Rattle.list.proofs.Walk.{Moves, rest, fuel, rest_on, rest_end, go_on, place_past, none, none_after}
 use Rattle.list.proofs.Stopping.{moves_by, ends_in, stops_by}
 use Rattle.content.specs.declared.TlsMessage.{TlsMessage}
 use Rattle.content_walk.specs.ContentWalks.{found_at, is_single, messages_behind, messages_of, met_by}

@@ -1,5 +1,7 @@
 // The messages of a record's content, by the type of the record: the one at a place, the walk over
 // them, and how many there are.
+#![tactic(auto)]
+
 ghost use Rattle.std.specs.Prelude.{◌≡◌, length};
 ghost use Rattle.content.specs.Contents.{content_says};
 ghost use Rattle.list.specs.Stopping.{end_of};

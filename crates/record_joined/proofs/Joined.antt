@@ -3,7 +3,7 @@
 use Prim.Native.Nat.{ℕ, ◌+◌, ◌-◌, ◌<◌, ◌≤◌}
 use mathlib.Core.Path.{◌≡◌, refl, sym, ap, ◌∙◌}
 use mathlib.Core.Bool.{Bool, true, false}
-use mathlib.Core.List.{List, []}
+use mathlib.Core.List.{List, [], foldr, foldl}
 use native.Mathlib.Omega.{arith}
 use borrow.Author.Tests.{leb-true, leb-false, le-leb, lt-leb}
 use lib.Dec.{eqb, leb}
@@ -139,3 +139,10 @@ same_bytes s outer inner = go (leb (inner.start + inner.len) (length (part_of s 
         let e : view_in_of s outer inner ≡ record { start = 0; len = 0 } = rw q in
         ap (part_of s) e ∙ no_part s (record { start = 0; len = 0 }) refl
         ∙ sym (part_none (part_of s outer) inner (leb-false _ _ q))
+
+-- the messages of records, and the place past them, the first beginning at a place
+abbrev pub message_sum : List ℕ → List TlsRawRecord → ℕ
+message_sum s rs = foldr (λ (r : TlsRawRecord) n. messages_in s r + n) 0 rs
+
+abbrev pub past_records : List TlsRawRecord → ℕ → ℕ
+past_records rs at = foldl (λ (at : ℕ) (r : TlsRawRecord). r.next) at rs

@@ -1,4 +1,6 @@
 // Joined records. Every place is counted from the front of the bytes lent.
+#![tactic(auto)]
+
 ghost use Rattle.std.specs.Prelude.{◌≡◌};
 ghost use Rattle.record.specs.Records.{raw_says};
 ghost use Rattle.record_joined.specs.Joined.{messages_in, record_from, tallied, view_in_of};

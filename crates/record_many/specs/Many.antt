@@ -3,7 +3,7 @@
 use Rattle.std.specs.Prelude.{◌+◌, ◌≤◌, ◌≡◌}
 use Rattle.refusal.specs.{ℕ, zero, suc, List, drop, length, refusal, Answer, accepted, refused, giving, within, NoSuch, Refusal}
 use Rattle.list.specs.{items_from, place, or_no_such, end_of, Stops}
-use Rattle.record_open.specs.{as_first, plaintext, record_met, TlsPlaintext}
+use Rattle.record_open.specs.{as_first, plaintext, TlsPlaintext}
 use Rattle.record_many.specs.declared.{ManyAnswer.ManyAnswer, TlsRecords.TlsRecords, TlsRecordsWalk.TlsRecordsWalk}
 
 -- the record that begins at a place, opened, its places counted from the front of all

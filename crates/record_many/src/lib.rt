@@ -1,5 +1,7 @@
 // Joined plaintext records, read in one call. Every place is counted from the front of the bytes
 // lent.
+#![tactic(auto)]
+
 ghost use Rattle.std.specs.Prelude.{◌≡◌};
 ghost use Rattle.content_walk.specs.ContentWalks.{past_says};
 ghost use Rattle.record_open.specs.Plaintext.{plaintext_says};

@@ -1,4 +1,6 @@
 // The plaintext record: opened by its type (RFC 5246 6.2.1).
+#![tactic(auto)]
+
 ghost use Rattle.std.specs.Prelude.{◌≡◌};
 ghost use Rattle.refusal.specs.Answers.{accepted, giving};
 ghost use Rattle.content_walk.specs.ContentWalks.{found_at, past_says};

@@ -1,4 +1,6 @@
 // What is counted of a handshake record's hellos, and how much of its body a message lacks.
+#![tactic(auto)]
+
 ghost use Rattle.std.specs.Prelude.{◌≡◌};
 ghost use Rattle.record_tally.specs.Tally.{count_of, cut_off, hello_tally, lacking_at, server_cut};
 

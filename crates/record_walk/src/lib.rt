@@ -1,4 +1,6 @@
 // The walk over the messages of a handshake record, lent as its content.
+#![tactic(auto)]
+
 ghost use Rattle.std.specs.Prelude.{true, ◌≡◌, length};
 ghost use Rattle.message.specs.Messages.{message_says};
 ghost use Rattle.record_walk.specs.Walks.{OpensAny, messages_from, met_head, moved, next_message, past_all, fresh_walk};
