@@ -1,4 +1,6 @@
 // The ClientHello, written (RFC 5246 7.4.1.2).
+#![tactic(auto)]
+
 ghost use Rattle.std.specs.Prelude.{true, ◌≡◌, ℕ, ◌≤◌, length};
 ghost use Rattle.read_client.specs.Client.{client};
 ghost use Rattle.registry.specs.Types.{client_hello_type};

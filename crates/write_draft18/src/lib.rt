@@ -1,4 +1,6 @@
 // The ServerHello of TLS 1.3 draft 18, written (draft-ietf-tls-tls13-18, 4.1.3).
+#![tactic(auto)]
+
 ghost use Rattle.std.specs.Prelude.{true, ◌≡◌, ℕ, ◌≤◌, length};
 ghost use Rattle.read_server.specs.Server.{draft18};
 ghost use Rattle.registry.specs.Types.{server_hello_type};

@@ -1,4 +1,6 @@
 // A handshake message, written: each kind that is, by its own writer.
+#![tactic(auto)]
+
 ghost use Rattle.std.specs.Prelude.{◌≡◌};
 ghost use Rattle.wire.specs.Puts.{room, written, write_says};
 ghost use Rattle.write_message.specs.Written.{handshake_text};

@@ -1,5 +1,7 @@
 // The messages whose body is one part, or none: ClientKeyExchange, Finished, HelloRequest (RFC 5246
 // 7.4.7, 7.4.9, 7.4.1.1).
+#![tactic(auto)]
+
 ghost use Rattle.std.specs.Prelude.{[], ◌≡◌, ◌≤◌};
 ghost use Rattle.field.specs.Fields.{sized};
 ghost use Rattle.field.specs.Texts.{field_text};

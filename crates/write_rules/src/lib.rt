@@ -1,5 +1,7 @@
 // What every writer shares: what came of a text, whether a part lies in the bytes lent, and a
 // message's head.
+#![tactic(auto)]
+
 ghost use Rattle.std.specs.Prelude.{false, ◌≡◌};
 ghost use Rattle.grammar.specs.Grammars.{How};
 ghost use Rattle.wire.specs.Parts.{lies_in};

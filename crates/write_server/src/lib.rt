@@ -1,4 +1,6 @@
 // The ServerHello, written (RFC 5246 7.4.1.3): the same at every version.
+#![tactic(auto)]
+
 ghost use Rattle.std.specs.Prelude.{true, ◌≡◌, ℕ, ◌≤◌, length};
 ghost use Rattle.read_server.specs.Server.{server};
 ghost use Rattle.registry.specs.Types.{server_hello_type};

@@ -1,0 +1,25 @@
+-- `write_server::gen_tls_serverhello` meets its contract: a part lies outside, or the writer of
+-- the parts says what came of it. Assumes nothing.
+use mathlib.Core.Path.{ap}
+use mathlib.Core.Bool.{not, true}
+use Rattle.read_server.specs.Server.{server}
+use Rattle.write_rules.proofs.Hellos.{outside_refused, by_parts}
+use Rattle.write_server.proofs.gen_tls_serverhello.Goals as goal
+
+pub returns-then-not-lies_in : goal.returns-then-not-lies_in
+returns-then-not-lies_in c =
+    let o = outside_refused (server true) _ _ 0x02 _ c.lies_in.ensures (ap not c.if-not-lies_in.true)
+    c.unplaced.ensures in
+    record {
+      result_value = o.0;
+      out_after = o.1;
+    }
+
+pub returns : goal.returns
+returns c =
+    let o = by_parts (server true) c.args.i.now c.args.m 0x02 _ c.lies_in.ensures (ap not c.if-not-lies_in.false)
+    (rw (c.random-random.ensures, c.session_id-id.ensures, c.ext-ext.ensures) at c.gen_serverhello-text.ensures.answer_value, (rw (c.random-random.ensures, c.session_id-id.ensures, c.ext-ext.ensures) at c.gen_serverhello-text.ensures.len_value, rw (c.random-random.ensures, c.session_id-id.ensures, c.ext-ext.ensures) at c.gen_serverhello-text.ensures.out_after)) in
+    record {
+      result_value = o.0;
+      out_after = o.1;
+    }
