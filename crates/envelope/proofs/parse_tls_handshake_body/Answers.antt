@@ -1,6 +1,5 @@
 -- `envelope::parse_tls_handshake_body` meets its contract. Assumes nothing.
 use Rattle.envelope.specs.Opening.{by_type}
-use borrow.Author.Rules.{rules}
 use Rattle.envelope.proofs.parse_tls_handshake_body.Goals as goal
 
 pub returns : goal.returns

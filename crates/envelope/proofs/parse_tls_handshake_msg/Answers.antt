@@ -1,14 +1,13 @@
 -- `envelope::parse_tls_handshake_msg` meets its contract: the type decides. Assumes nothing.
 use Prim.Native.Nat.{ℕ}
 use mathlib.Core.Path.{◌≡◌, ap, sym, ◌∙◌}
-use mathlib.Core.Logic.{◌⊎◌, inl, inr, ⊎_elim}
+use mathlib.Core.Logic.{◌⊎◌, inl, inr}
 use mathlib.Core.List.{List}
 use borrow.Author.Tests.{ne_eqb}
 use Rattle.refusal.specs.Answers.{refused}
 use Rattle.refusal.specs.Refusals.{unplaced}
 use Rattle.refusal.specs.declared.Reason.TheVariants.{Switch}
 use Rattle.envelope.specs.Opening.{opened}
-use borrow.Author.Rules.{rules}
 use Rattle.envelope.proofs.parse_tls_handshake_msg.Goals as goal
 use Rattle.envelope.proofs.parse_tls_handshake_msg.Goals.{in-3-1, in_default-1}
 

@@ -6,7 +6,6 @@ use Rattle.refusal.proofs.Told.{case}
 use Rattle.message.specs.Messages.{message_says}
 use Rattle.envelope.specs.Opening.{head_says, message}
 use Rattle.envelope.proofs.Heads.{met_no_head, met_no_body, met_got}
-use borrow.Author.Rules.{rules}
 use Rattle.envelope.proofs.parse_tls_message_handshake.Goals as goal
 
 pub returns-in-Refused : goal.returns-in-Refused

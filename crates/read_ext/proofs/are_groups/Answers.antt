@@ -3,7 +3,6 @@
 use Rattle.refusal.proofs.Told.{case}
 use Rattle.wire.specs.Parts.{part_says}
 use Rattle.read_ext.specs.Kinds.{is_of}
-use borrow.Author.Rules.{rules}
 use Rattle.read_ext.proofs.are_groups.Goals as goal
 
 pub returns-in-Refused : goal.returns-in-Refused

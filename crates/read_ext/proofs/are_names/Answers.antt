@@ -4,7 +4,6 @@ use mathlib.Core.Path.{◌∙◌}
 use Rattle.refusal.proofs.Told.{case}
 use Rattle.wire.specs.Parts.{part_says}
 use Rattle.read_ext.specs.Kinds.{is_of}
-use borrow.Author.Rules.{rules}
 use Rattle.read_ext.proofs.are_names.Goals as goal
 
 pub returns-in-Refused : goal.returns-in-Refused

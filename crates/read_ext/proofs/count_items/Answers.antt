@@ -1,13 +1,10 @@
 -- `read_ext::count_items` meets its contract: what was counted and what is left are all the items.
 -- Assumes nothing.
-use Prim.Native.Nat.{◌-◌}
 use native.Mathlib.Omega.{arith}
-use lib.ListN.{length}
 use Rattle.refusal.proofs.Told.{case}
 use Rattle.list.specs.Tagged.{tagged_says}
 use Rattle.read_ext.specs.Kinds.{fits}
-use Rattle.read_ext.proofs.Turns.{Counting, begins, stops, further, goes}
-use borrow.Author.Rules.{rules}
+use Rattle.read_ext.proofs.Turns.{begins, stops, further, goes}
 use Rattle.read_ext.proofs.count_items.Goals as goal
 
 pub loop-x-init : goal.loop-x-init

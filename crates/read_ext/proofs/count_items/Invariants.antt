@@ -1,13 +1,9 @@
 -- `read_ext::count_items` meets its contract: what was counted and what is left are all the items.
 -- Assumes nothing.
 use Prim.Native.Nat.{◌-◌}
-use native.Mathlib.Omega.{arith}
 use lib.ListN.{length}
-use Rattle.refusal.proofs.Told.{case}
-use Rattle.list.specs.Tagged.{tagged_says}
 use Rattle.read_ext.specs.Kinds.{fits}
-use Rattle.read_ext.proofs.Turns.{Counting, begins, stops, further, goes}
-use borrow.Author.Rules.{rules}
+use Rattle.read_ext.proofs.Turns.{Counting}
 use Rattle.read_ext.proofs.count_items.Given as goal
 
 abbrev pub invariant-loop-x : goal.invariant-loop-x

@@ -2,7 +2,6 @@
 -- walking; or it is damaged. Assumes nothing.
 use Rattle.read_ext.specs.Extensions.{extension_place}
 use Rattle.read_ext.proofs.Turns.{is_sound, is_damaged}
-use borrow.Author.Rules.{rules}
 use Rattle.read_ext.proofs.extension_at.Goals as goal
 
 pub returns-then-items-block : goal.returns-then-items-block

@@ -3,7 +3,6 @@
 use borrow.Author.Tests.{ne_eqb}
 use Rattle.read_ext.specs.Extensions.{extension_from}
 use Rattle.read_ext.proofs.Turns.{is_sound, is_damaged}
-use borrow.Author.Rules.{rules}
 use Rattle.read_ext.proofs.extension_from.Goals as goal
 
 pub returns-then-at-ne0 : goal.returns-then-at-ne0

@@ -1,7 +1,6 @@
 -- `read_ext::extension_of` meets its contract: the type decides. Assumes nothing.
 use borrow.Author.Tests.{ne_eqb}
 use Rattle.read_ext.specs.Extensions.{extension_of}
-use borrow.Author.Rules.{rules}
 use Rattle.read_ext.proofs.extension_of.Goals as goal
 
 pub returns-in-0 : goal.returns-in-0

@@ -1,6 +1,5 @@
 -- `read_ext::is_of` meets its contract: the type decides. Assumes nothing.
 use Rattle.read_ext.proofs.Data.{fragment_test, raw_test}
-use borrow.Author.Rules.{rules}
 use Rattle.read_ext.proofs.is_of.Goals as goal
 
 pub returns-in-0 : goal.returns-in-0

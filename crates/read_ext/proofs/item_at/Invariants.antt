@@ -1,12 +1,8 @@
 -- `read_ext::item_at` meets its contract: after k turns the place asked for is k places nearer in
 -- what is left. Assumes nothing.
 use Prim.Native.Nat.{◌-◌}
-use mathlib.Core.Path.{◌∙◌}
-use Rattle.refusal.proofs.Told.{case}
-use Rattle.list.specs.Tagged.{tagged_says}
 use Rattle.read_ext.specs.Kinds.{fits}
-use Rattle.read_ext.proofs.Turns.{Nearing, far, nearer, nowhere, there, opened_there}
-use borrow.Author.Rules.{rules}
+use Rattle.read_ext.proofs.Turns.{Nearing}
 use Rattle.read_ext.proofs.item_at.Given as goal
 
 abbrev pub invariant-loop-k : goal.invariant-loop-k

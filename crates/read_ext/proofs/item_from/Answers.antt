@@ -4,7 +4,6 @@ use mathlib.Core.Path.{ap}
 use Rattle.refusal.specs.Answers.{refused}
 use Rattle.refusal.proofs.Told.{case}
 use Rattle.list.specs.Tagged.{tagged_says, fit_at}
-use borrow.Author.Rules.{rules}
 use Rattle.read_ext.proofs.item_from.Goals as goal
 
 pub returns-in-Refused : goal.returns-in-Refused

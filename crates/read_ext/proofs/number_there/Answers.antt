@@ -4,7 +4,6 @@ use Rattle.wire.specs.Numbers.{number_says}
 use Rattle.wire.proofs.Numbers.{below_limit}
 use Rattle.read_ext.specs.Extensions.{number_there}
 use Rattle.read_ext.proofs.OfKind.{width_above}
-use borrow.Author.Rules.{rules}
 use Rattle.read_ext.proofs.number_there.Goals as goal
 
 pub returns-in-Refused : goal.returns-in-Refused

@@ -5,7 +5,6 @@ use Rattle.refusal.proofs.Told.{case}
 use Rattle.list.specs.Tagged.{tagged_says}
 use Rattle.read_ext.specs.Extensions.{opened_from}
 use Rattle.read_ext.proofs.Data.{openable}
-use borrow.Author.Rules.{rules}
 use Rattle.read_ext.proofs.open_from.Goals as goal
 
 pub open_item-requires : goal.open_item-requires

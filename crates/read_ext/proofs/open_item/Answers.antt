@@ -4,7 +4,6 @@ use native.Mathlib.Omega.{arith}
 use Rattle.read_ext.specs.Kinds.{kind_of}
 use Rattle.read_ext.specs.Extensions.{opened}
 use Rattle.read_ext.proofs.OfKind.{place_shift}
-use borrow.Author.Rules.{rules}
 use Rattle.read_ext.proofs.open_item.Goals as goal
 
 pub overflow_add-content : goal.overflow_add-content

@@ -4,7 +4,6 @@ use mathlib.Core.Path.{ap}
 use Rattle.read_ext.specs.Extensions.{sound, extensions}
 use Rattle.read_ext.specs.declared.Reach.{Reach}
 use Rattle.read_ext.proofs.Turns.{is_sound, is_damaged}
-use borrow.Author.Rules.{rules}
 use Rattle.read_ext.proofs.parse_tls_extensions.Goals as goal
 
 pub returns-then-items-block : goal.returns-then-items-block

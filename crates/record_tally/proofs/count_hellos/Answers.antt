@@ -1,10 +1,7 @@
 -- `record_tally::count_hellos` meets its contract: what was counted and what the messages that are
 -- left add is what all of them add. Assumes nothing.
-use Prim.Native.Nat.{◌+◌, ◌-◌, ◌≤◌}
 use mathlib.Core.Path.{◌≡◌, sym, ap, ◌∙◌}
 use native.Mathlib.Omega.{arith}
-use borrow.Author.Rules.{rules}
-use lib.ListN.{length}
 use Rattle.refusal.proofs.Told.{case}
 use Rattle.list.proofs.Walk.{rest_end}
 use Rattle.message.specs.Messages.{message_says}

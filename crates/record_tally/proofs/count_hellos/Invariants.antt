@@ -1,17 +1,11 @@
 -- `record_tally::count_hellos` meets its contract: what was counted and what the messages that are
 -- left add is what all of them add. Assumes nothing.
 use Prim.Native.Nat.{◌+◌, ◌-◌, ◌≤◌}
-use mathlib.Core.Path.{◌≡◌, sym, ap, ◌∙◌}
-use native.Mathlib.Omega.{arith}
-use borrow.Author.Rules.{rules}
+use mathlib.Core.Path.{◌≡◌}
 use lib.ListN.{length}
-use Rattle.refusal.proofs.Told.{case}
-use Rattle.list.proofs.Walk.{rest_end}
-use Rattle.message.specs.Messages.{message_says}
 use Rattle.record_walk.specs.Walks.{messages}
-use Rattle.record_walk.proofs.Walking.{left, by_messages, all_from}
-use Rattle.record_tally.specs.Tally.{clients_of, servers_of, cut_of, hello_tally}
-use Rattle.record_tally.proofs.Tally.{Turn, walk_turn, walk_end}
+use Rattle.record_walk.proofs.Walking.{left}
+use Rattle.record_tally.specs.Tally.{clients_of, servers_of, cut_of}
 use Rattle.record_tally.proofs.count_hellos.Given as goal
 
 abbrev pub invariant-loop-m : goal.invariant-loop-m

@@ -3,7 +3,6 @@ use borrow.Enum.Refused.{opened}
 use mathlib.Core.Path.{sym}
 use Rattle.record_tally.specs.Tally.{count_of}
 use Rattle.record_tally.proofs.Tally.{others}
-use borrow.Author.Rules.{rules}
 use Rattle.record_tally.proofs.count_kind.Goals as goal
 
 pub returns-in-ClientHello : goal.returns-in-ClientHello

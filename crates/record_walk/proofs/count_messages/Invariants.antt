@@ -1,16 +1,10 @@
 -- `record_walk::count_messages` meets its contract: what was counted and what is left are all the
 -- messages. Assumes nothing.
 use Prim.Native.Nat.{◌+◌, ◌-◌, ◌≤◌}
-use mathlib.Core.Path.{◌≡◌, sym, ap, ◌∙◌}
-use native.Mathlib.Omega.{arith}
+use mathlib.Core.Path.{◌≡◌}
 use lib.ListN.{length}
-use borrow.Author.Rules.{rules}
-use Rattle.refusal.proofs.Told.{case}
-use Rattle.list.specs.Stopping.{end_of}
-use Rattle.list.proofs.Walk.{rest_on, rest_end}
-use Rattle.envelope.specs.Opening.{head_says}
 use Rattle.record_walk.specs.Walks.{messages_from, past_all}
-use Rattle.record_walk.proofs.Walking.{left, by_messages, all_from, head_met, head_not_met}
+use Rattle.record_walk.proofs.Walking.{left}
 use Rattle.record_walk.proofs.count_messages.Given as goal
 
 abbrev pub invariant-loop-stop : goal.invariant-loop-stop

@@ -6,7 +6,6 @@ use Rattle.message.specs.Messages.{message_says}
 use Rattle.envelope.specs.Opening.{head_says}
 use Rattle.envelope.proofs.Heads.{met_no_head, met_no_body, met_got}
 use Rattle.record_walk.specs.Walks.{met_head}
-use borrow.Author.Rules.{rules}
 use Rattle.record_walk.proofs.meet_tls_message.Goals as goal
 
 pub returns-in-Refused : goal.returns-in-Refused

@@ -1,7 +1,7 @@
 -- `record_walk::opens_any` meets its contract: of 0x00 and 0x05 no body is read, and the others'
 -- are handed out whole; of every other type the body of no bytes is refused. Assumes nothing.
 use Prim.Native.Nat.{ℕ, zero, suc, ◌+◌, ◌-◌, ◌<◌, ◌≤◌}
-use mathlib.Core.Bool.{Bool, true, false}
+use mathlib.Core.Bool.{true, false}
 use mathlib.Core.Path.{◌≡◌, refl}
 use mathlib.Core.Logic.{◌⊎◌, inl, inr}
 use mathlib.Core.List.{[]}

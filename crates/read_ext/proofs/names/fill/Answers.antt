@@ -1,5 +1,4 @@
 -- `read_ext::names::fill` meets its contract: the names end with the bytes. Assumes nothing.
-use borrow.Author.Rules.{rules}
 use Rattle.read_ext.proofs.names.fill.Goals as goal
 
 pub returns : goal.returns

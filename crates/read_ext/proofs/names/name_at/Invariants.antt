@@ -1,12 +1,8 @@
 -- `read_ext::names::name_at` meets its contract: after k turns the place asked for is k places
 -- nearer in what is left. Assumes nothing.
-use borrow.Author.Rules.{rules}
 use Prim.Native.Nat.{◌-◌}
-use mathlib.Core.Path.{sym, ap, ◌∙◌}
-use Rattle.refusal.specs.Answers.{refused}
-use Rattle.refusal.proofs.Told.{case}
-use Rattle.list.specs.Tagged.{any_data, tagged_says}
-use Rattle.read_ext.proofs.Turns.{Nearing, far, nearer, nowhere, there, name_got, name_none, name_is}
+use Rattle.list.specs.Tagged.{any_data}
+use Rattle.read_ext.proofs.Turns.{Nearing}
 use Rattle.read_ext.proofs.names.name_at.Given as goal
 
 abbrev pub invariant-loop-k : goal.invariant-loop-k

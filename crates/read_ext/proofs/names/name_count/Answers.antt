@@ -1,5 +1,4 @@
 -- `read_ext::names::name_count` meets its contract: the count of all. Assumes nothing.
-use borrow.Author.Rules.{rules}
 use Rattle.read_ext.proofs.names.name_count.Goals as goal
 
 pub returns : goal.returns

@@ -4,7 +4,6 @@ use Rattle.refusal.specs.Answers.{refused}
 use Rattle.refusal.proofs.Told.{case}
 use Rattle.list.specs.Tagged.{tagged_says}
 use Rattle.read_ext.specs.Extensions.{name_from}
-use borrow.Author.Rules.{rules}
 use Rattle.read_ext.proofs.names.name_from.Goals as goal
 
 pub returns-in-Refused : goal.returns-in-Refused

@@ -1,8 +1,7 @@
 -- `read_others::next_protocol::parse_tls_handshake_next_protocol` meets its contract, field by
 -- field. Assumes nothing.
-use Prim.Native.Nat.{ℕ}
 use mathlib.Core.Path.{sym}
-use mathlib.Core.List.{List, [], ◌∷◌}
+use mathlib.Core.List.{[], ◌∷◌}
 use Rattle.refusal.proofs.Told.{case}
 use Rattle.wire.specs.Parts.{part_says}
 use Rattle.field.specs.Fields.{sized}
@@ -10,7 +9,6 @@ use Rattle.grammar.specs.Grammars.{as_view}
 use Rattle.grammar.specs.Forms.{reading}
 use Rattle.grammar.proofs.Chain.{So, begin, and, stop, end}
 use Rattle.read_others.specs.Body.{next_protocol}
-use borrow.Author.Rules.{rules}
 use Rattle.read_others.proofs.next_protocol.parse_tls_handshake_next_protocol.Goals as goal
 
 pub returns-in-Refused : goal.returns-in-Refused

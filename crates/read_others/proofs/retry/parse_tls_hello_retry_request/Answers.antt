@@ -1,15 +1,13 @@
 -- `read_others::retry::parse_tls_hello_retry_request` meets its contract, field by field. Assumes
 -- nothing.
-use Prim.Native.Nat.{ℕ}
 use mathlib.Core.Path.{sym, ◌∙◌}
-use mathlib.Core.List.{List, [], ◌∷◌}
+use mathlib.Core.List.{[], ◌∷◌}
 use native.Mathlib.Omega.{arith}
 use Rattle.grammar.specs.Hellos.{cipher}
 use Rattle.grammar.specs.Forms.{reading}
 use Rattle.grammar.proofs.Chain.{So, begin, and, stop, end}
 use Rattle.grammar.proofs.Numbers.{Found, found, not_found}
 use Rattle.read_others.specs.Body.{retry}
-use borrow.Author.Rules.{rules}
 use Rattle.read_others.proofs.retry.parse_tls_hello_retry_request.Goals as goal
 
 pub returns-in-Refused : goal.returns-in-Refused

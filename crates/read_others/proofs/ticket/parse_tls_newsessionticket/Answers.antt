@@ -1,8 +1,7 @@
 -- `read_others::ticket::parse_tls_newsessionticket` meets its contract: the bytes of the length
 -- given, and in them field by field. Assumes nothing.
-use Prim.Native.Nat.{ℕ}
 use mathlib.Core.Path.{◌≡◌, sym, ◌∙◌}
-use mathlib.Core.List.{List, []}
+use mathlib.Core.List.{[]}
 use native.Mathlib.Omega.{arith}
 use Rattle.refusal.specs.Refusals.{refusal}
 use Rattle.refusal.specs.declared.Reason.TheVariants.{LengthValue}
@@ -15,7 +14,6 @@ use Rattle.grammar.proofs.Chain.{So, begin_closed, and, stop, end}
 use Rattle.grammar.proofs.Numbers.{Found, found, not_found}
 use Rattle.read_others.specs.Body.{ticket_form, session_ticket}
 use Rattle.read_others.proofs.Tickets.{under_4, past_end, inside}
-use borrow.Author.Rules.{rules}
 use Rattle.read_others.proofs.ticket.parse_tls_newsessionticket.Goals as goal
 
 pub returns-then-len-lt4 : goal.returns-then-len-lt4
