@@ -1,8 +1,9 @@
 -- The reader that holds the lent list of certificates and its place: what it hands out, and where
 -- it moves. RULES 10.6; RFC 5246 7.4.2. Of every list `proofs/Same.antt` shows that it hands out
 -- the items of the list (`list/specs/Items.antt`).
+use Rattle.std.specs.Prelude.{◌≡◌}
 use Rattle.std.specs.Borrow.{Bor}
-use Rattle.refusal.specs.{ℕ, zero, suc, ◌≡◌, List, refusal, Answer, accepted, refused, NoSuch, Refusal}
+use Rattle.refusal.specs.{ℕ, zero, suc, List, refusal, Answer, accepted, refused, NoSuch, Refusal}
 use Rattle.wire.specs.{Part}
 use Rattle.field.specs.{sized}
 use Rattle.list.specs.{item_from, items, place}
