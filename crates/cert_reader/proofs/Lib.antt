@@ -1,3 +1,1 @@
-mod Apart
-mod Calls
 pub mod Same

@@ -15,7 +15,7 @@ at_front l = record { list = l; at = 0 }
 
 -- the certificate at the reader's place
 abbrev pub cert_of : TlsCertificateReader → Answer Part
-cert_of r = item_from (sized 3) (now r.list) r.at
+cert_of r = item_from (sized 3) r.list.now r.at
 
 -- the place past what was found, or the one where it was looked for
 abbrev pub past_or : ℕ → Answer Part → ℕ
@@ -32,7 +32,7 @@ reader_after (suc k) l = moved_on_of (reader_after k l)
 
 pub record SameItems (l : Bor (List ℕ)) : Type 0 where
   -- the reader hands out the items of the list, each at its place, and past the last one NoSuch
-  pub meets : (k : ℕ) → cert_of (reader_after k l) ≡ place k (items (sized 3) (now l))
+  pub meets : (k : ℕ) → cert_of (reader_after k l) ≡ place k (items (sized 3) l.now)
   -- it holds the list that it was lent
   pub keeps : (k : ℕ) → (reader_after k l).list ≡ l
   -- a reader that has no certificate says NoSuch and stays, wherever it stands

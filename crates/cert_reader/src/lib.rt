@@ -1,6 +1,5 @@
 // RULES 10.6: the certificates of a chain one after the other, by a reader with the lent list and
-// its place in it. The prover covers no function over such a struct: each is thin, proved by hand,
-// and leaves the work to a function of plain parameters.
+// its place in it. What it finds and how it moves is left to functions of plain parameters.
 #![tactic(auto)]
 
 ghost use Rattle.std.specs.Prelude.{◌≡◌};

@@ -1,5 +1,4 @@
 -- `cert_reader::past_cert` meets its contract, by that of `cert_in`. Assumes nothing.
-use borrow.Author.Rules.{rules}
 use Rattle.refusal.proofs.Told.{case}
 use Rattle.wire.specs.Parts.{part_says}
 use Rattle.cert_reader.proofs.past_cert.Goals as goal
