@@ -6,6 +6,8 @@ import pathlib
 import re
 
 GAUGES = "RONCW"
+# the folder of the edits that the gate does not try; their labels have `more/` before them
+MORE = "must-fail-more"
 
 
 def crates(root):
@@ -14,12 +16,18 @@ def crates(root):
     for line in (root / "crates.txt").read_text().splitlines():
         name, colon, below = line.partition("#")[0].partition(":")
         if colon:
-            listed[name.strip()] = below.split()
+            listed[name.split()[0]] = below.split()
     return listed
 
 
 def is_library(root, crate):
     return (root / "crates" / crate / "src" / "lib.rt").is_file()
+
+
+def is_static(root, crate):
+    """Whether a crate is a static library: the exports for C, each a call of a library's function."""
+    lines = (root / "crates.txt").read_text()
+    return re.search(rf"^{crate} +staticlib\b", lines, re.M) is not None
 
 
 class Function:
@@ -71,7 +79,7 @@ HEAD = re.compile(
 )
 TYPE = re.compile(r"^impl(?:<[^>]*>)?[ \t]+(\w+)", re.M)
 RESULT = re.compile(r"\s*->[^{;]*?(?=\s+(?:requires|ensures)\b|\s*[{;])")
-CLAUSE = re.compile(r"\s*(requires|ensures)\s*\{")
+CLAUSE = re.compile(r"\s*(requires|ensures)\*?(?:\s+\w+)?\s*\{")
 # comments and bytes in quotes, which may hold brackets of their own
 QUIET = re.compile(r"""//[^\n]*|b"(?:\\.|[^"\\])*"|b'(?:\\.|[^'\\])'""")
 
@@ -112,9 +120,8 @@ def functions(root, crate):
 
 
 def facts(function):
-    """The contract: what stands between ⌜ and ⌝ in each clause, in one line each."""
-    said = [fact for clause in function.ensures for fact in re.findall(r"⌜(.*?)⌝", clause, re.S)]
-    return [" ".join(fact.split()) for fact in said]
+    """The contract: what each clause says, in one line each."""
+    return [" ".join(fact.split()) for fact in function.ensures]
 
 
 DEFINED = re.compile(
@@ -144,7 +151,7 @@ class Edit:
 
     def __init__(self, root, crate, file):
         self.crate, self.file = crate, file
-        self.label = str(file.relative_to(root / "crates" / crate / "must-fail").with_suffix(""))
+        self.label = ("more/" if file.parent.name == MORE else "") + file.stem
         self.lines = file.read_text().splitlines()
         first = self.FIRST.fullmatch(self.lines[0] if self.lines else "")
         names = [self.NAME.fullmatch(name) for name in first.group(1).split(", ")] if first else []
@@ -185,8 +192,8 @@ class Edit:
 
 def edits(root, crate):
     """The edits of a crate: those of the gate, then the others."""
-    folder = root / "crates" / crate / "must-fail"
-    files = [*sorted(folder.glob("*.edit")), *sorted((folder / "more").glob("*.edit"))]
+    folder = root / "crates" / crate
+    files = [*sorted((folder / "must-fail").glob("*.edit")), *sorted((folder / MORE).glob("*.edit"))]
     return [Edit(root, crate, file) for file in files]
 
 

@@ -135,13 +135,17 @@ sum_of() { [ ! -f "$1" ] || sha256sum <"$1" | cut -d ' ' -f 1; }
 # target/run/NAME.sum.
 told_of() { printf '%s\n' "sources $(sources "$1" "$(rt version)")" "program $(sum_of "$root/crates/$1/out/$1")"; }
 
-# built_of NAME: the checksum of the libraries below a crate as they stand built; nothing, where one
-# is not there.
+# built_of NAME: the checksum of the libraries below a crate as `rt ci` left them built; nothing,
+# where one is not there, or is what another command built, beside which a stamp stands.
 built_of() (
     cd "$root/crates"
+    formats=()
     for name in $(stands_on "$1"); do
-        [ "$name" = "$1" ] || cat "$name/out/rlib/$name.rlib/format" || exit 1
-    done 2>/dev/null | sha256sum | cut -d ' ' -f 1
+        [ "$name" != "$1" ] || continue
+        [ -f "$name/out/rlib/$name.rlib/format" ] && [ ! -e "$name/out/rlib/stamp" ] || exit 0
+        formats+=("$name/out/rlib/$name.rlib/format")
+    done
+    cat "${formats[@]}" | sha256sum | cut -d ' ' -f 1
 )
 
 # start LOG COMMAND..: runs a command beside the script, as $job; what it says goes to the log. It
