@@ -19,7 +19,7 @@ LIBRARY, EXPORTS = "norrabist_c", "norrabist_ffi"
 COLUMNS, CALL = 100, 60
 # an export: its comment, its head and clauses, up to the body
 EXPORT = re.compile(
-    r"^((?://[^\n]*\n)*)#\[unsafe\(no_mangle\)\]\n(pub extern \"C\" fn (\w+)\(.*?)^\{\n", re.M | re.S
+    r"^((?://[^\n]*\n)*)(?:#\[unsafe\(no_mangle\)\]\n)?(pub extern \"C\" fn (\w+)\(.*?)^\{\n", re.M | re.S
 )
 LENT = re.compile(r"^ghost use (\S+)\.\{([^}]*)\};\n", re.M)
 STRUCT = re.compile(r"^pub struct (\w+)", re.M)
