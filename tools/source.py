@@ -80,8 +80,8 @@ HEAD = re.compile(
 TYPE = re.compile(r"^impl(?:<[^>]*>)?[ \t]+(\w+)", re.M)
 RESULT = re.compile(r"\s*->[^{;]*?(?=\s+(?:requires|ensures)\b|\s*[{;])")
 CLAUSE = re.compile(r"\s*(requires|ensures)\*?(?:\s+\w+)?\s*\{")
-# comments and bytes in quotes, which may hold brackets of their own
-QUIET = re.compile(r"""//[^\n]*|b"(?:\\.|[^"\\])*"|b'(?:\\.|[^'\\])'""")
+# comments, texts and characters in quotes, which may hold brackets of their own
+QUIET = re.compile(r"""//[^\n]*|(?<!extern )"(?:\\.|[^"\\])*"|'(?:\\.|[^'\\])'""")
 
 
 def functions_of(crate, file, text):
