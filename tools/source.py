@@ -81,12 +81,12 @@ TYPE = re.compile(r"^impl(?:<[^>]*>)?[ \t]+(\w+)", re.M)
 RESULT = re.compile(r"\s*->[^{;]*?(?=\s+(?:requires|ensures)\b|\s*[{;])")
 CLAUSE = re.compile(r"\s*(requires|ensures)\*?(?:\s+\w+)?\s*\{")
 # comments, texts and characters in quotes, which may hold brackets of their own
-QUIET = re.compile(r"""//[^\n]*|(?<!extern )"(?:\\.|[^"\\])*"|'(?:\\.|[^'\\])'""")
+QUIET = re.compile(r"""//[^\n]*|(?P<kept>extern "C")|"(?:\\.|[^"\\])*"|'(?:\\.|[^'\\])'""")
 
 
 def functions_of(crate, file, text):
     """The functions of one source file, in its order."""
-    text = QUIET.sub(lambda quiet: " " * len(quiet.group()), text)
+    text = QUIET.sub(lambda quiet: quiet["kept"] or " " * len(quiet.group()), text)
     blocks = []
     for impl in TYPE.finditer(text):
         opened = text.index("{", impl.end())
