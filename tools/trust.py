@@ -16,7 +16,7 @@ import made
 import source
 import words
 
-PROOF = re.compile(r"^(?:ghost |pub )?use Rattle\.[a-z0-9_]+\.proofs\.", re.M)
+PROOF = re.compile(r"^(?:ghost |pub )?use Rattle\.(?!std\b)[a-z0-9_]+\.proofs\.", re.M)
 
 
 def before(known):
