@@ -79,6 +79,7 @@ HEAD = re.compile(
 )
 TYPE = re.compile(r"^impl(?:<[^>]*>)?[ \t]+(\w+)", re.M)
 RESULT = re.compile(r"\s*->[^{;]*?(?=\s+(?:requires|ensures)\b|\s*[{;])")
+PRINTS = re.compile(r"->\s*io::Result<\(\)>\s*$")
 CLAUSE = re.compile(r"\s*(requires|ensures)\*?(?:\s+\w+)?\s*\{")
 # comments, texts and characters in quotes, which may hold brackets of their own
 QUIET = re.compile(r"""//[^\n]*|(?P<kept>extern "C")|"(?:\\.|[^"\\])*"|'(?:\\.|[^'\\])'""")
@@ -95,7 +96,9 @@ def functions_of(crate, file, text):
     for head in HEAD.finditer(text):
         opened = text.index("(", head.end())
         closed = closing(text, opened)
-        lent = re.search(r"&\s*(?:'\w+\s+)?mut\b", text[opened:closed]) is not None
+        # a writer that is printed to is no value that is handed out
+        taken = re.sub(r"\bto:\s*&\s*mut\b[^,]*", "", text[opened:closed])
+        lent = re.search(r"&\s*(?:'\w+\s+)?mut\b", taken) is not None
         # what stands between the parameters and the body: a result, then clauses
         result = RESULT.match(text, closed + 1)
         at, said = result.end() if result else closed + 1, {"requires": [], "ensures": []}
@@ -106,7 +109,8 @@ def functions_of(crate, file, text):
         visible = "".join((head.group(1) or "").split())
         line = text.count("\n", 0, head.start(2)) + 1
         span = (head.end() - len(head.group().lstrip()), closing(text, text.index("{", at)))
-        name, has = head.group(2), result is not None
+        # nor is it that printing failed
+        name, has = head.group(2), result is not None and not PRINTS.search(result.group())
         found.append(Function(crate, file, line, span, kind, name, visible, lent, has, said))
     return found
 
