@@ -5,8 +5,6 @@ use Rattle.norrabist_c.proofs.ExtensionParts.{case_in}
 use borrow.Author.Rules.{rules}
 use Rattle.norrabist_c.proofs.extensions.norrabist_parse_tls_extensions.Goals as goal
 
-}
-
 pub returns-in-Damaged : goal.returns-in-Damaged
 returns-in-Damaged c =
     let e = case_in extensions_says c.parse_tls_extensions.ensures c.in-Damaged.is in

@@ -96,7 +96,7 @@ returns-in_default-2 c =
     rw d (between (k - 0x07) (omega arith))
 
 pub returns-in_default-3 : goal.returns-in_default-3
-returns-in_default-3 c = sym (above _ (omega arith) c.in_default-1.in_default-1-own.rest.1)
+returns-in_default-3 c = sym (above _ (omega arith) c.in_default.in_default-own.rest.1)
 
 pub returns-in-0 : goal.returns-in-0
 returns-in-0 c = alone _ c.in-0.is

@@ -13,10 +13,10 @@ returns-in_default c =
     c.refusal_number.ensures
     ∙ ap (λ (r : Refusal). number_of r.reason) c.unplaced.ensures
     ∙ ap number_of (unplaced_reason _)
-    ∙ sym (kind_other _ c.if-this-lt3.false c.in_default-1.in_default-1-own.rest.1)
+    ∙ sym (kind_other _ c.in_default.if-this-lt3-own.false c.in_default.in_default-own.rest.1)
 
 pub returns-in-0 : goal.returns-in-0
 returns-in-0 c = kind_more _ c.in-0.is
 
 pub returns-in-0-2 : goal.returns-in-0-2
-returns-in-0-2 c = kind_first _ c.if-this-lt3.true
+returns-in-0-2 c = kind_first _ c.in-0.if-this-lt3-own.true
