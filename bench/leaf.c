@@ -5,11 +5,6 @@ typedef __SIZE_TYPE__ size_t;
 typedef __UINT8_TYPE__ uint8_t;
 typedef __UINT64_TYPE__ uint64_t;
 
-struct slice {
-    const uint8_t *bytes;
-    size_t len;
-};
-
 struct answer {
     uint64_t words[3];
 };
@@ -19,14 +14,14 @@ struct told {
 };
 
 /* What bench/leaf gives each tree: the width is the number of a case of `Width`, or is left alone
-   by a function that knows it. */
+   by a function that knows it; a slice is passed as a pointer and a length. */
 #define TREE(name)                                                                         \
-    void name##_any(struct answer *, const struct slice *, size_t, const uint8_t *);       \
-    void name##_one(struct answer *, const struct slice *, size_t, const uint8_t *);       \
-    void name##_two(struct answer *, const struct slice *, size_t, const uint8_t *);       \
-    void name##_three(struct answer *, const struct slice *, size_t, const uint8_t *);     \
-    void name##_four(struct answer *, const struct slice *, size_t, const uint8_t *);      \
-    void name##_none(struct answer *, const struct slice *, size_t, const uint8_t *);      \
+    void name##_any(struct answer *, const uint8_t *, size_t, size_t, uint8_t);            \
+    void name##_one(struct answer *, const uint8_t *, size_t, size_t, uint8_t);            \
+    void name##_two(struct answer *, const uint8_t *, size_t, size_t, uint8_t);            \
+    void name##_three(struct answer *, const uint8_t *, size_t, size_t, uint8_t);          \
+    void name##_four(struct answer *, const uint8_t *, size_t, size_t, uint8_t);           \
+    void name##_none(struct answer *, const uint8_t *, size_t, size_t, uint8_t);           \
     struct told name##_hello_none(const uint8_t *, size_t);                                \
     struct told name##_norrabist_parse_tls_handshake_client_hello(const uint8_t *, size_t);
 TREE(before)
@@ -36,14 +31,9 @@ TREE(after)
    the ciphers begin. */
 static const uint8_t body[64] = {[0] = 3, 3, [36] = 2, 0, 0x2f, 1};
 enum { body_len = 43, number_at = 35 };
-static const struct slice bytes = {body, sizeof body};
 static struct answer answer;
 
-#define NUMBER(name, width)                                  \
-    do {                                                     \
-        static const uint8_t number_of_bytes = (width) - 1;  \
-        name(&answer, &bytes, number_at, &number_of_bytes);  \
-    } while (0)
+#define NUMBER(name, width) name(&answer, body, sizeof body, number_at, (width) - 1)
 #define HELLO(name) name(body, body_len)
 
 #ifdef CALL

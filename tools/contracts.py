@@ -33,13 +33,14 @@ def promised(root, crate):
 
 def tried(root, crate):
     """The public functions of a library of which not two wrong answers are tried, one of them in
-    the gate."""
+    the gate. The exports of a static library call functions of a library, which are tried."""
     functions, labels = source.functions(root, crate), {}
     for edit in source.edits(root, crate):
         for name, _ in edit.names:
             for function in source.named(name, functions):
                 labels.setdefault(function, []).append(edit.label)
-    for function in functions if source.is_library(root, crate) else []:
+    calls = not source.is_library(root, crate) or source.is_static(root, crate)
+    for function in [] if calls else functions:
         named = labels.get(function, [])
         if function.public and (len(named) < 2 or all("/" in label for label in named)):
             where = f"{function.file}:{function.line}"

@@ -32,7 +32,7 @@ def groups(root):
         if line.startswith("#"):
             found.append((line.lstrip("# ").rstrip(), []))
         elif colon and found:
-            found[-1][1].append(name.strip())
+            found[-1][1].append(name.split()[0])
     return [(said, crates) for said, crates in found if crates]
 
 

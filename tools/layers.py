@@ -6,7 +6,7 @@ import source
 
 KIT = ("io", "libc")
 OF_CODE = re.compile(r"(?<![\w:])([a-z_0-9]+)::")
-OF_SPECS = re.compile(r"Rattle·([a-z_0-9]+)[.·]")
+OF_SPECS = re.compile(r"\bRattle\.([a-z_0-9]+)\.")
 USE = re.compile(r"^(?:pub )?use ([a-z_0-9]+)(?:::\w+)*::(\w+);", re.M)
 PASSED = re.compile(r"^pub use ([a-z_0-9]+)::", re.M)
 TYPE = re.compile(r"^pub (?:struct|enum) \w+(?:<[^>]*>)? \{(.*?)^\}", re.M | re.S)

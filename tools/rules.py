@@ -15,7 +15,7 @@ CITED = re.compile(r"((?:`[^`\n]+`(?:,| and|, and| of)\s+)*`[^`\n]+`)\s+in\s+" +
 FIELD = re.compile(r"^\s+(?:pub\s+)?([^\s:(){}]+)\s+:(?=\s)", re.M)
 CASE = re.compile(r"^\s+([^\s:(){}=|]+)(?=\s|$)", re.M)
 EDIT = re.compile(r"`([a-z0-9_]+)/((?:more/)?[a-z0-9_]+)`")
-PARTS = ("src", "specs", "proofs", "must-fail")
+PARTS = ("src", "specs", "proofs", "must-fail", source.MORE)
 BREAK = r"(?:\s|--|//|#|\*)+"
 CITATION = re.compile(rf"\bRULES{BREAK}(\d+(?:\.\d+)?)((?:(?:,| and| to){BREAK}\d+\.\d+)*)")
 CITING = ("crates", "rust", "compare", "bench", "docs")
@@ -82,7 +82,8 @@ def edits(root, name, text):
     listed = source.crates(root)
     for found in EDIT.finditer(text):
         crate, label = found.groups()
-        there = root / "crates" / crate / "must-fail" / f"{label}.edit"
+        folder = source.MORE if label.startswith("more/") else "must-fail"
+        there = root / "crates" / crate / folder / f"{label.removeprefix('more/')}.edit"
         if crate in listed and label not in PARTS and not there.is_file():
             where = f"docs/{name}:{line_of(text, found.start())}"
             yield f"{where}: the edit {crate}/{label} is not there"

@@ -6,6 +6,8 @@ import pathlib
 import re
 
 GAUGES = "RONCW"
+# the folder of the edits that the gate does not try; their labels have `more/` before them
+MORE = "must-fail-more"
 
 
 def crates(root):
@@ -14,12 +16,18 @@ def crates(root):
     for line in (root / "crates.txt").read_text().splitlines():
         name, colon, below = line.partition("#")[0].partition(":")
         if colon:
-            listed[name.strip()] = below.split()
+            listed[name.split()[0]] = below.split()
     return listed
 
 
 def is_library(root, crate):
     return (root / "crates" / crate / "src" / "lib.rt").is_file()
+
+
+def is_static(root, crate):
+    """Whether a crate is a static library: the exports for C, each a call of a library's function."""
+    lines = (root / "crates.txt").read_text()
+    return re.search(rf"^{crate} +staticlib\b", lines, re.M) is not None
 
 
 class Function:
@@ -71,14 +79,15 @@ HEAD = re.compile(
 )
 TYPE = re.compile(r"^impl(?:<[^>]*>)?[ \t]+(\w+)", re.M)
 RESULT = re.compile(r"\s*->[^{;]*?(?=\s+(?:requires|ensures)\b|\s*[{;])")
-CLAUSE = re.compile(r"\s*(requires|ensures)\s*\{")
-# comments and bytes in quotes, which may hold brackets of their own
-QUIET = re.compile(r"""//[^\n]*|b"(?:\\.|[^"\\])*"|b'(?:\\.|[^'\\])'""")
+PRINTS = re.compile(r"->\s*io::Result<\(\)>\s*$")
+CLAUSE = re.compile(r"\s*(requires|ensures)\*?(?:\s+\w+)?\s*\{")
+# comments, texts and characters in quotes, which may hold brackets of their own
+QUIET = re.compile(r"""//[^\n]*|(?P<kept>extern "C")|"(?:\\.|[^"\\])*"|'(?:\\.|[^'\\])'""")
 
 
 def functions_of(crate, file, text):
     """The functions of one source file, in its order."""
-    text = QUIET.sub(lambda quiet: " " * len(quiet.group()), text)
+    text = QUIET.sub(lambda quiet: quiet["kept"] or " " * len(quiet.group()), text)
     blocks = []
     for impl in TYPE.finditer(text):
         opened = text.index("{", impl.end())
@@ -87,7 +96,9 @@ def functions_of(crate, file, text):
     for head in HEAD.finditer(text):
         opened = text.index("(", head.end())
         closed = closing(text, opened)
-        lent = re.search(r"&\s*(?:'\w+\s+)?mut\b", text[opened:closed]) is not None
+        # a writer that is printed to is no value that is handed out
+        taken = re.sub(r"\bto:\s*&\s*mut\b[^,]*", "", text[opened:closed])
+        lent = re.search(r"&\s*(?:'\w+\s+)?mut\b", taken) is not None
         # what stands between the parameters and the body: a result, then clauses
         result = RESULT.match(text, closed + 1)
         at, said = result.end() if result else closed + 1, {"requires": [], "ensures": []}
@@ -98,7 +109,8 @@ def functions_of(crate, file, text):
         visible = "".join((head.group(1) or "").split())
         line = text.count("\n", 0, head.start(2)) + 1
         span = (head.end() - len(head.group().lstrip()), closing(text, text.index("{", at)))
-        name, has = head.group(2), result is not None
+        # nor is it that printing failed
+        name, has = head.group(2), result is not None and not PRINTS.search(result.group())
         found.append(Function(crate, file, line, span, kind, name, visible, lent, has, said))
     return found
 
@@ -112,9 +124,8 @@ def functions(root, crate):
 
 
 def facts(function):
-    """The contract: what stands between ⌜ and ⌝ in each clause, in one line each."""
-    said = [fact for clause in function.ensures for fact in re.findall(r"⌜(.*?)⌝", clause, re.S)]
-    return [" ".join(fact.split()) for fact in said]
+    """The contract: what each clause says, in one line each."""
+    return [" ".join(fact.split()) for fact in function.ensures]
 
 
 DEFINED = re.compile(
@@ -144,7 +155,7 @@ class Edit:
 
     def __init__(self, root, crate, file):
         self.crate, self.file = crate, file
-        self.label = str(file.relative_to(root / "crates" / crate / "must-fail").with_suffix(""))
+        self.label = ("more/" if file.parent.name == MORE else "") + file.stem
         self.lines = file.read_text().splitlines()
         first = self.FIRST.fullmatch(self.lines[0] if self.lines else "")
         names = [self.NAME.fullmatch(name) for name in first.group(1).split(", ")] if first else []
@@ -185,8 +196,8 @@ class Edit:
 
 def edits(root, crate):
     """The edits of a crate: those of the gate, then the others."""
-    folder = root / "crates" / crate / "must-fail"
-    files = [*sorted(folder.glob("*.edit")), *sorted((folder / "more").glob("*.edit"))]
+    folder = root / "crates" / crate
+    files = [*sorted((folder / "must-fail").glob("*.edit")), *sorted((folder / MORE).glob("*.edit"))]
     return [Edit(root, crate, file) for file in files]
 
 

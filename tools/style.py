@@ -3,7 +3,7 @@ too long."""
 
 import re
 
-PROSE, PROOF = 100, 120
+PROSE = 100
 PAPERS = ("docs/*.md", "*.md", "crates/README.md", "compare/*.md")
 PUBLIC = re.compile(r'\s*pub (?:(?:extern "C"|const) )*(?:fn|struct|enum) (\w+)')
 ATTRIBUTE = re.compile(r"\s*#\[.*\]\s*$")
@@ -26,17 +26,15 @@ def bare(root):
 
 
 def long_comments(root):
-    """Comments of crates/ over 100 columns, and terms of proofs over 120."""
-    for file in sorted((root / "crates").rglob("*")):
+    """Comments of crates/ over 100 columns; all else is laid out by rt fmt."""
+    files = [file for part in ("src", "specs", "proofs") for file in (root / "crates").glob(f"*/{part}/**/*")]
+    for file in sorted(files):
         if file.suffix not in (".rt", ".antt"):
             continue
-        proof = "proofs" in file.relative_to(root).parts
         for place, line in enumerate(file.read_text().splitlines(), 1):
-            free = line.lstrip().startswith(("use ", "unfolding "))
-            most = PROSE if COMMENT.match(line) else PROOF if proof and not free else None
-            if most and len(line) > most:
+            if COMMENT.match(line) and len(line) > PROSE:
                 where = f"{file.relative_to(root)}:{place}"
-                yield f"{where}: {len(line)} columns, at most {most}"
+                yield f"{where}: {len(line)} columns, at most {PROSE}"
 
 
 def long_prose(root):

@@ -83,13 +83,13 @@ show() {
 need() { look_for "$@"; show "$@"; }
 
 # The folder of the kit.
-kit() { dirname "$(dirname "$(rt doc)")"; }
+kit() { dirname "$(rt doc)"; }
 
 # stands_on NAME..: the crates named and all that they reach, in the order of crates.txt, which has
 # lower ones first.
 stands_on() {
     WANTED="$*" awk -F : '
-        /^[a-z]/ { name[++n] = $1; deps[n] = $2 }
+        /^[a-z]/ { split($1, word, " "); name[++n] = word[1]; deps[n] = $2 }
         END {
             split(ENVIRON["WANTED"], list, " ")
             for (k in list) wanted[list[k]]
@@ -99,6 +99,17 @@ stands_on() {
         }' "$root/crates.txt"
 }
 
+# uses NAME: the libraries that a crate's line of crates.txt names.
+uses() { sed -n "s/^$1\( [^:]*\)\{0,1\}://p" "$root/crates.txt"; }
+
+# The names of the programs, in the order of crates.txt.
+programs() {
+    local name
+    while read -r name; do
+        [ ! -f "$root/crates/$name/src/main.rt" ] || echo "$name"
+    done < <(sed -n 's/^\([a-z][a-z0-9_]*\)[ :].*/\1/p' "$root/crates.txt")
+}
+
 # sources NAME KIT FILE..: the checksum of all that a crate is made of: the kit, by what
 # `rt version` says, the machine, crates.txt, the files of all crates that it stands on, and the
 # files named.
@@ -106,7 +117,7 @@ sources() (
     cd "$root"
     crates=$(stands_on "$1") paths=(crates.txt "${@:3}")
     for crate in $crates; do
-        for part in src specs proofs stdin stdout args data; do
+        for part in src specs proofs stdin stdout args status data; do
             [ ! -e "crates/$crate/$part" ] || paths+=("crates/$crate/$part")
         done
     done
@@ -119,6 +130,23 @@ sources() (
 
 # sum_of FILE: its checksum; nothing, where it is not there.
 sum_of() { [ ! -f "$1" ] || sha256sum <"$1" | cut -d ' ' -f 1; }
+
+# told_of NAME: of a program that was proved, what it was made of, and what it is. It stands in
+# target/run/NAME.sum.
+told_of() { printf '%s\n' "sources $(sources "$1" "$(rt version)")" "program $(sum_of "$root/crates/$1/out/$1")"; }
+
+# built_of NAME: the checksum of the libraries below a crate as `rt ci` left them built; nothing,
+# where one is not there, or is what another command built, beside which a stamp stands.
+built_of() (
+    cd "$root/crates"
+    formats=()
+    for name in $(stands_on "$1"); do
+        [ "$name" != "$1" ] || continue
+        [ -f "$name/out/rlib/$name.rlib/format" ] && [ ! -e "$name/out/rlib/stamp" ] || exit 0
+        formats+=("$name/out/rlib/$name.rlib/format")
+    done
+    cat "${formats[@]}" | sha256sum | cut -d ' ' -f 1
+)
 
 # start LOG COMMAND..: runs a command beside the script, as $job; what it says goes to the log. It
 # is a group of its own, so that what ends the script ends it with all that it has started.
@@ -153,104 +181,45 @@ finish() {
     return "$status"
 }
 
-# unproved NAME..: those of the crates, lower ones first, that rt will prove: its stamp of the crate
-# is not there, or not that of what is here. It is made as rt makes it; if a kit makes it otherwise,
-# the number that prove tells first is too high, and nothing else changes.
-unproved() (
-    cd "$root"
-    of=" " home=$(kit)
-    for name in "$@"; do
-        deps=$(sed -n "s/^$name://p" crates.txt) same=no
-        if [ -f "target/stamp/$name" ]; then
-            same=$(
-                cat "$home/KIT-ID"
-                echo "machine $(uname -m)"
-                cd "crates/$name"
-                find src specs proofs stdin stdout args data -type f -exec sha256sum {} + 2>/dev/null | sort
-                echo "deps: $deps"
-                cd ../..
-                for dep in $deps; do
-                    case $of in *" $dep "*) echo "unproved" ;; esac
-                    if [ -d "crates/$dep/src" ]; then cat "target/stamp/$dep"; else echo "kit $dep"; fi
-                done
-            ) || true
-            same=$(sha256sum <<<"$same" | cut -d ' ' -f 1)
-        fi
-        [ "$same" = "$(cat "target/stamp/$name" 2>/dev/null)" ] || { of="$of$name " && echo "$name"; }
-    done
-)
-
-# How many crates rt proves side by side.
-cores() {
-    local n=${RT_JOBS:-$(nproc 2>/dev/null || echo 1)}
-    [ -n "${RT_JOBS:-}" ] || [ "$n" -le 4 ] || n=4
-    echo "$n"
-}
-
-# about NAME..: how long their proofs take, from what was measured: a library some 20 seconds of a
-# core, a program 120, the time that a core waits for another one included.
-about() {
-    local name sum=0 most=0 one
-    for name in "$@"; do
-        one=20
-        [ ! -f "$root/crates/$name/src/main.rt" ] || one=120
-        sum=$((sum + one)) most=$((one > most ? one : most))
-    done
-    sum=$((sum / $(cores)))
-    sum=$((sum > most ? sum : most))
-    if [ "$sum" -lt 90 ]; then echo "about $sum seconds"; else echo "about $(((sum + 30) / 60)) minutes"; fi
-}
-
-# prove NAME..: rt check, of these crates and what they stand on. Tells first how many there are to
-# prove and about how long that takes, then each crate as it is proved, and what is being proved
-# where none was for ten seconds. Where one is not proved: what rt said, and status 1.
-prove() {
-    local log=$root/target/log all todo open name how last=$SECONDS began=$SECONDS ended=0 on=yes line
-    local -A since=() told=()
-    mapfile -t all < <(stands_on "$@")
-    mapfile -t todo < <(unproved "${all[@]}")
-    if [ "${#todo[@]}" -eq 0 ]; then
-        say "${#all[@]} crates, none to be proved"
-    else
-        say "${#all[@]} crates, ${#todo[@]} of them to be proved," \
-            "on $(cores | sed 's/^1$/1 core/; t; s/$/ cores/'): $(about "${todo[@]}");" \
-            "what is proved is kept, and a second call starts at once"
-    fi
-    mkdir -p "$log"
-    # rt makes NAME.out as it begins with a crate, and ends it with a line that says how it went
-    for name in "${all[@]}"; do rm -f "$log/$name.out"; done
-    start "$root/target/prove.log" within "$root" rt check "$@"
+# in_crate NAME WORDS..: rt with these words, in the folder of a crate; it proves first, one after
+# the other, those of the crates below that are not proved yet. Tells how many crates there are,
+# then each as it is proved, and what is being proved where none was for ten seconds. What rt says
+# goes to target/log/NAME.log. Where a crate is not proved: what rt said of it, and status 1.
+in_crate() {
+    local name=$1 log=$root/target/log/$1.log began=$SECONDS last=$SECONDS on=yes of="" since=0 seen=0 all line status=0
+    shift
+    mkdir -p "$root/target/log"
+    say "$name: $(stands_on "$name" | wc -l) crates with those below; what is proved is kept, and a second call starts at once"
+    start "$log" within "$root/crates/$name" rt "$@"
     while [ "$on" = yes ]; do
         sleep 0.3
         goes_on || on=no
-        open=()
-        for name in "${all[@]}"; do
-            [ -z "${told[$name]:-}" ] && [ -f "$log/$name.out" ] || continue
-            open+=("$log/$name.out") since[$name]=${since[$name]:-$SECONDS}
-        done
-        [ "${#open[@]}" -gt 0 ] || continue
-        while read -r name how; do
-            told[$name]=yes ended=$((ended + 1))
-            [ "$how" != unchanged ] || continue
-            echo "[$ended/${#all[@]}] $name $how" >&2
-            last=$SECONDS
-        done < <(sed -n -e 's/^rt: \([a-z0-9_]*\) proved (\([0-9]* s\))$/\1 \2/p' \
-            -e 's/^rt: \([a-z0-9_]*\) proved (unchanged.*/\1 unchanged/p' \
-            -e 's/^rt: \([a-z0-9_]*\) NOT PROVED.*/\1 is NOT PROVED/p' "${open[@]}")
+        all=$(wc -l <"$log")
+        # rt names a crate as it begins with it, and ends it with the line of the verdict
+        while IFS= read -r line; do
+            case $line in
+            "rt: chose --jobs "*) of=${line##* } since=$SECONDS ;;
+            "logic=proved "*)
+                [ -z "$of" ] || echo "    $of $((SECONDS - since)) s" >&2
+                of="" last=$SECONDS
+                ;;
+            "logic=not-proved"*) [ -z "$of" ] || echo "    $of is NOT PROVED" >&2 ;;
+            esac
+        done < <(sed -n "$((seen + 1)),${all}p" "$log")
+        seen=$all
         [ $((SECONDS - last)) -ge 10 ] || continue
-        line=""
-        for name in "${all[@]}"; do
-            [ -n "${told[$name]:-}" ] || [ -z "${since[$name]:-}" ] || line="$line, $name for $((SECONDS - since[$name])) s"
-        done
-        [ -z "$line" ] || echo "    being proved: ${line#, }" >&2
+        [ -z "$of" ] || echo "    being proved: $of for $((SECONDS - since)) s" >&2
         last=$SECONDS
     done
-    if ! finish; then
-        cat "$root/target/prove.log" >&2
+    finish || status=$?
+    # a program that was run ends with a status of its own
+    ! grep -q '^rt: running ' "$log" || status=0
+    if [ "$status" -ne 0 ]; then
+        grep -v '^\(statements\|library\|crate\|logic\|axioms\) \|: proved$' "$log" >&2 || true
         say "not proved; above is what rt said"
         return 1
     fi
-    [ "${#todo[@]}" -eq 0 ] || say "proved, in $((SECONDS - began)) s"
+    say "$((SECONDS - began)) s"
 }
 
 # within FOLDER COMMAND..: runs a command there.

@@ -16,7 +16,7 @@ import made
 import source
 import words
 
-PROOF = re.compile(r"^(?:ghost |pub )?use Rattle·[a-z0-9_]+(?:·proofs)?\.proofs\.", re.M)
+PROOF = re.compile(r"^(?:ghost |pub )?use Rattle\.(?!std\b)[a-z0-9_]+\.proofs\.", re.M)
 
 
 def before(known):
@@ -37,7 +37,8 @@ def idle(root, known):
     for crate in source.crates(root):
         lib = root / "crates" / crate / "specs" / "Lib.antt"
         for name in words.passed_on(lib.read_text()) if lib.is_file() else []:
-            if (f"{crate}/specs/", name) not in taken:
+            # operators are taken from the kit's Prelude by every file itself
+            if (f"{crate}/specs/", name) not in taken and "◌" not in name:
                 yield f"{crate}/specs/Lib.antt passes {name} on, which no other crate takes of it"
 
 

@@ -7,21 +7,21 @@ import source
 
 # Crates that who links C or Rust reads besides; demand 3's clause of the readers of hellos; crates
 # whose contracts are theorems.
-EXPORTS = ("norrabist_c",)
+EXPORTS = ("norrabist_c", "norrabist_ffi")
 SPLITS = ("BySplit ", "ByVersion ")
 THEOREMS = ("claim_rows", "claim_readers", "claim_wayback", "claim_writers", "claims")
 
 NAMED = re.compile(r"^(?:(?:abbrev|unfoldable|opaque|pub)\s+)*(?:(?:record|data)\s+)?([^\s:(){}]+)")
 TAKEN = re.compile(r"^(pub )?use (\S+?)\.\{([^}]*)\}$")
 LENT = re.compile(r"^ghost use (\S+?)\.\{([^}]*)\};$", re.M)
-FILE = re.compile(r"Rattle·(\w+?)(?:·specs)?\.specs(?:\.([A-Z]\w*))?$")
-WORD = re.compile(r"[^\s(){},;.⌜⌝\[\]]+")
-FIELD = re.compile(r"(?<=[\s(])\.\S+")
+FILE = re.compile(r"Rattle\.(\w+)\.specs(?:\.([A-Z]\w*))?$")
+WORD = re.compile(r"[^\s(){},;.\[\]]+")
+FIELD = re.compile(r"(?<=[\w')])\.\w+")
 SKIPPED = ("use ", "pub mod ", "infix")
 
 
 def words_of(text):
-    """The words of a text that may name a definition: a field that is taken of a record, ` .name`,
+    """The words of a text that may name a definition: a field that is taken of a record, `r.name`,
     does not."""
     return WORD.findall(FIELD.sub(" ", text))
 

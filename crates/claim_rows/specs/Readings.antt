@@ -39,11 +39,11 @@ reject {A} n call s why = record { row = n; Value = A; call = call; input = s; n
 
 -- a function is told by what its contract says: `reading client` is
 -- `parse_tls_handshake_client_hello`, `strict_client` is `parse_tls_handshake_client_hello_strict`,
--- `by_version server_versions`, `certificate_request` and `session_ticket n`, n being the length given,
--- are those of their bodies, `message` is `parse_tls_message_handshake`, `change_cipher_spec_of`,
--- `alert_first` and `heartbeat_of` are those of these messages, `plaintext` is `parse_tls_plaintext`,
--- `many` is `tls_parser_many`; and this one hands what is read as a ClientHello to
--- `gen_tls_clienthello`
+-- `by_version server_versions`, `certificate_request` and `session_ticket n`, n being the length
+-- given, are those of their bodies, `message` is `parse_tls_message_handshake`,
+-- `change_cipher_spec_of`, `alert_first` and `heartbeat_of` are those of these messages,
+-- `plaintext` is `parse_tls_plaintext`, `many` is `tls_parser_many`; and this one hands what is
+-- read as a ClientHello to `gen_tls_clienthello`
 abbrev pub written_back : List ℕ → Answer (List ℕ)
 written_back s = then (reading client s) (λ c. message_text (head_text 0x01) (hello_text client s c))
 

@@ -11,8 +11,8 @@ use borrow.Author.Tests.{leb-true, leb-false, le-leb, lt-leb, lt-ltb, ltb-true, 
 use borrow.Author.Tests.{eq-eqb}
 use lib.ListN.{length, length-append}
 use lib.Dec.{leb, ltb, eqb, leb-suc-suc}
-use Rattle.refusal.specs.Refusals.{number_of, OneOf, refusal, unplaced}
-use Rattle.refusal.specs.Answers.{Answer, accepted, refused, then, number_in}
+use Rattle.refusal.specs.Refusals.{OneOf, refusal, unplaced}
+use Rattle.refusal.specs.Answers.{Answer, accepted, refused, then}
 use Rattle.refusal.specs.declared.Reason.{Reason}
 use Rattle.refusal.specs.declared.Reason.TheVariants.{Verify, LengthValue, TooLarge, BadLength, NoRoom}
 use Rattle.refusal.specs.declared.Reason.TheVariants.{NotYetImplemented}
@@ -57,14 +57,6 @@ use Rattle.write_draft18.proofs.Lengths.{draft18_length, draft18_bounds}
 use Rattle.message.specs.declared.keyexchange.TlsClientKeyExchangeContents.{TlsClientKeyExchangeContents}
 use Rattle.message.specs.declared.keyexchange.TlsClientKeyExchangeContents.TheVariants.{Dh, Ecdh, Unknown}
 use Rattle.message.specs.declared.handshake.TlsMessageHandshake.{TlsMessageHandshake}
-use Rattle.message.specs.declared.handshake.TlsMessageHandshake.TheVariants.{HelloRequest, ClientHello, ServerHello}
-use Rattle.message.specs.declared.handshake.TlsMessageHandshake.TheVariants.{ServerHelloV13Draft18, NewSessionTicket}
-use Rattle.message.specs.declared.handshake.TlsMessageHandshake.TheVariants.{EndOfEarlyData, HelloRetryRequest}
-use Rattle.message.specs.declared.handshake.TlsMessageHandshake.TheVariants.{Certificate, ServerKeyExchange}
-use Rattle.message.specs.declared.handshake.TlsMessageHandshake.TheVariants.{CertificateRequest, ServerDone}
-use Rattle.message.specs.declared.handshake.TlsMessageHandshake.TheVariants.{CertificateVerify, ClientKeyExchange}
-use Rattle.message.specs.declared.handshake.TlsMessageHandshake.TheVariants.{Finished, CertificateStatus}
-use Rattle.message.specs.declared.handshake.TlsMessageHandshake.TheVariants.{NextProtocol, KeyUpdate}
 use Rattle.write_others.specs.Exchange.{exchange_text}
 use Rattle.write_others.proofs.Parts.{view_message, view_refused, sized-message, sized_refused}
 use Rattle.message.specs.Messages.{WrittenBody, no_body, client_body, server_body, draft18_body, exchange_body}

@@ -1,5 +1,6 @@
--- What is claimed of extensions beyond the contracts of single functions: one field for each theorem.
--- RULES 11 cites them. `claims::extension_claims` promises them all, so that none can go missing.
+-- What is claimed of extensions beyond the contracts of single functions: one field for each
+-- theorem. RULES 11 cites them. `claims::extension_claims` promises them all, so that none can go
+-- missing.
 use Rattle.refusal.specs.{OneResult}
 use Rattle.list.specs.Tagged.{tagged_says, EveryTagged}
 use Rattle.read_ext.specs.Kinds.{EveryKind}

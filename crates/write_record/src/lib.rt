@@ -1,4 +1,6 @@
 // A record round messages already written (RFC 5246 6.2.1).
+#![tactic(auto)]
+
 ghost use Rattle.std.specs.Prelude.{◌≡◌};
 ghost use Rattle.wire.specs.Puts.{room, written, write_says};
 ghost use Rattle.write_rules.specs.JoinTexts.{text_length};

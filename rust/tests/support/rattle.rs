@@ -18,9 +18,9 @@ pub struct Told {
     pub fields: Vec<Typed>,
 }
 
-/// All exports, by their names.
+/// All exports, by their names: those of the static library.
 pub fn exports() -> Vec<Export> {
-    let text = sources();
+    let text = source_of("norrabist_ffi");
     let mut all: Vec<_> = text.split("pub extern \"C\" fn ").skip(1).map(export).collect();
     all.sort_by(|a, b| a.name.cmp(&b.name));
     all
@@ -29,9 +29,10 @@ pub fn exports() -> Vec<Export> {
 /// All structs that are laid out as in C, by their names.
 pub fn told() -> Vec<Told> {
     let text = sources();
-    let structs = text.split("#[repr(C)]\npub struct ").skip(1);
-    let mut all: Vec<_> = structs
-        .map(|told| {
+    let items = text.split("#[repr(C)]\n").skip(1).map(without_attributes);
+    let mut all: Vec<_> = items
+        .map(|item| {
+            let told = item.strip_prefix("pub struct ").expect("a struct");
             let (name, rest) = told.split_once(" {").expect("fields");
             let fields = typed(rest.split('}').next().expect("an end"));
             let fields = fields.into_iter().map(|(name, of)| (name.replace("pub ", ""), of)).collect();
@@ -40,6 +41,15 @@ pub fn told() -> Vec<Told> {
         .collect();
     all.sort_by(|a, b| a.name.cmp(&b.name));
     all
+}
+
+/// An item from its first line on that is no attribute.
+fn without_attributes(item: &str) -> &str {
+    let mut left = item;
+    while left.starts_with("#[") {
+        left = left.split_once('\n').expect("an item").1;
+    }
+    left
 }
 
 fn export(function: &str) -> Export {
@@ -58,10 +68,20 @@ fn typed(list: &str) -> Vec<Typed> {
 
 /// The source of every crate.
 fn sources() -> String {
-    let folders = below(&Path::new(env!("CARGO_MANIFEST_DIR")).join("../crates"));
-    let files = folders.iter().flat_map(|folder| below(&folder.join("src")));
-    let files = files.filter(|file| file.extension().is_some_and(|end| end == "rt"));
+    let names =
+        below(&crates()).into_iter().filter_map(|folder| folder.file_name()?.to_str().map(String::from));
+    names.map(|name| source_of(&name)).collect()
+}
+
+/// The source of a crate.
+fn source_of(name: &str) -> String {
+    let files = below(&crates().join(name).join("src"));
+    let files = files.into_iter().filter(|file| file.extension().is_some_and(|end| end == "rt"));
     files.map(|file| text(&file)).collect()
+}
+
+fn crates() -> PathBuf {
+    Path::new(env!("CARGO_MANIFEST_DIR")).join("../crates")
 }
 
 fn below(folder: &Path) -> Vec<PathBuf> {

@@ -1,5 +1,5 @@
--- `claims::extension_claims` meets its contract: each claim is shown in the crate that it speaks of.
--- Assumes nothing.
+-- `claims::extension_claims` meets its contract: each claim is shown in the crate that it speaks
+-- of. Assumes nothing.
 use Rattle.list.proofs.Tags.{one_tagged_lem, every_tagged}
 use Rattle.read_ext.proofs.Answers.{one_block_lem}
 use Rattle.read_ext.proofs.Blocks.{every_block}

@@ -1,0 +1,17 @@
+-- `norrabist_c::contents::norrabist_parse_tls_message_changecipherspec` meets its contract. Assumes
+-- nothing.
+use Rattle.refusal.proofs.Told.{case}
+use Rattle.wire.specs.Numbers.{number_says}
+use borrow.Author.Rules.{rules}
+use Rattle.norrabist_c.proofs.contents.norrabist_parse_tls_message_changecipherspec.Goals as goal
+
+pub returns-in-Refused : goal.returns-in-Refused
+returns-in-Refused c =
+    rw (
+      case number_says c.change_cipher_spec_at.ensures
+          c.in-Refused.is,
+      c.refusal_number.ensures,
+    )
+
+pub returns-in-Got : goal.returns-in-Got
+returns-in-Got c = rw (case number_says c.change_cipher_spec_at.ensures c.in-Got.is)

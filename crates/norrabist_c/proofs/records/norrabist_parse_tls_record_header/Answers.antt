@@ -1,0 +1,18 @@
+-- `norrabist_c::records::norrabist_parse_tls_record_header` meets its contract. Assumes nothing.
+use Rattle.refusal.proofs.Told.{case}
+use Rattle.record.specs.Records.{header_says}
+use borrow.Author.Rules.{rules}
+use Rattle.norrabist_c.proofs.records.norrabist_parse_tls_record_header.Goals as goal
+
+pub returns-in-Refused : goal.returns-in-Refused
+returns-in-Refused c =
+    rw (
+      case header_says c.parse_tls_record_header.ensures
+          c.in-Refused.is,
+      c.refusal_number.ensures,
+    )
+
+pub returns-in-Got : goal.returns-in-Got
+returns-in-Got c =
+    rw (case header_says c.parse_tls_record_header.ensures
+    c.in-Got.is)

@@ -1,0 +1,16 @@
+-- `norrabist_c::refusals::of_alert` meets its contract: the refusal of the reader, or none. Assumes
+-- nothing.
+use Rattle.refusal.proofs.Told.{case}
+use Rattle.content.specs.Contents.{alert_says}
+use borrow.Author.Rules.{rules}
+use Rattle.norrabist_c.proofs.refusals.of_alert.Goals as goal
+
+pub returns-in-Refused : goal.returns-in-Refused
+returns-in-Refused c =
+    let e = case alert_says c.alert_at.ensures c.in-Refused.is in
+    rw e c.carried.ensures
+
+pub returns-in-Got : goal.returns-in-Got
+returns-in-Got c =
+    let e = case alert_says c.alert_at.ensures c.in-Got.is in
+    rw e
