@@ -1,15 +1,14 @@
 -- What is written of slices is what is written of a message whose parts they are. Assumes nothing.
 use Prim.Native.Nat.{ℕ}
-use mathlib.Core.Path.{◌≡◌, refl, ap, sym, ◌∙◌}
+use mathlib.Core.Path.{◌≡◌, refl}
 use mathlib.Core.List.{List}
 use mathlib.Core.Bool.{true, false}
-use mathlib.Core.Option.{Option, none, some}
+use mathlib.Core.Option.{some}
 use native.Mathlib.Omega.{arith}
-use Rattle.refusal.specs.Answers.{Answer, accepted, refused}
+use Rattle.refusal.specs.Answers.{refused}
 use Rattle.refusal.specs.Refusals.{unplaced, number_of}
 use Rattle.refusal.specs.declared.Reason.TheVariants.{BadLength, NotYetImplemented}
 use Rattle.wire.specs.Parts.{part_of, if_some}
-use Rattle.wire.specs.declared.view.View.{View}
 use Rattle.read_client.specs.Client.{client}
 use Rattle.read_server.specs.Server.{server, draft18}
 use Rattle.message.specs.Messages.{kind_number, WrittenBody, no_body, client_body, server_body, draft18_body, exchange_body}
@@ -17,7 +16,7 @@ use Rattle.message.specs.Messages.{finished_body, body_written}
 use Rattle.message.specs.declared.handshake.TlsMessageHandshake.{TlsMessageHandshake}
 use Rattle.message.specs.declared.keyexchange.TlsClientKeyExchangeContents.TheVariants.{Unknown, Dh, Ecdh}
 use Rattle.message.proofs.Written.{message_of, written_is, by_written}
-use Rattle.write_rules.specs.MessageTexts.{head_text, message_text, view_text, sized_text}
+use Rattle.write_rules.specs.MessageTexts.{message_text, sized_text}
 use Rattle.write_rules.proofs.Hellos.{hello_parts, hello_outside}
 use Rattle.write_others.proofs.Parts.{view_in, view_out}
 use Rattle.write_message.specs.Written.{handshake_text}

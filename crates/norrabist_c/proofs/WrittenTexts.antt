@@ -6,12 +6,12 @@ use mathlib.Core.List.{List, []}
 use mathlib.Core.Logic.{◌⊎◌, inl, inr}
 use native.Mathlib.Omega.{arith}
 use borrow.Author.Tests.{ne_eqb}
-use lib.ListN.{length, length-append}
-use Rattle.refusal.specs.Answers.{Answer, accepted, number_in}
-use Rattle.wire.specs.Puts.{room, written}
+use lib.ListN.{length-append}
+use Rattle.refusal.specs.Answers.{Answer, number_in}
+use Rattle.wire.specs.Puts.{written}
 use Rattle.wire.proofs.Numbers.{length_bytes}
 use Rattle.write_rules.specs.JoinTexts.{text_length}
-use Rattle.write_rules.specs.MessageTexts.{head_text, message_text}
+use Rattle.write_rules.specs.MessageTexts.{head_text}
 use Rattle.write_rules.proofs.Messages.{Wrote, head_bytes, head_is, message_is}
 use Rattle.norrabist_c.specs.Writers.{wrote_told, request_text, kind_told}
 use Rattle.norrabist_c.specs.declared.writers.Wrote as declared

@@ -1,6 +1,6 @@
 -- What is told of the other bodies that hold fields (RULES 1.7): their numbers and the lengths of
 -- their parts, or the table's number and nothing else.
-use Rattle.refusal.specs.{ℕ, true, false, Answer, accepted, refused, number_of}
+use Rattle.refusal.specs.{false, Answer, accepted, refused, number_of}
 use Rattle.wire.specs.{Number}
 use Rattle.read_certs.specs.declared.{certificate.TlsCertificateContents.TlsCertificateContents, request.TlsCertificateRequestContents.TlsCertificateRequestContents, status.TlsCertificateStatusContents.TlsCertificateStatusContents}
 use Rattle.read_others.specs.declared.{next_protocol.TlsNextProtocolContent.TlsNextProtocolContent, ticket.TlsNewSessionTicketContent.TlsNewSessionTicketContent}

@@ -1,7 +1,7 @@
 -- What is told of a hello's body (RULES 1.7): its numbers and the lengths of its parts, or the
 -- table's number and nothing else.
 use Rattle.std.specs.Prelude.{◌<◌}
-use Rattle.refusal.specs.{ℕ, true, false, Answer, accepted, refused, number_of}
+use Rattle.refusal.specs.{false, Answer, accepted, refused, number_of}
 use Rattle.wire.specs.{if_some}
 use Rattle.read_client.specs.{TlsClientHelloContents}
 use Rattle.read_others.specs.declared.retry.TlsHelloRetryRequestContents.{TlsHelloRetryRequestContents}

@@ -1,6 +1,6 @@
 -- What is told of an item of a list (RULES 1.7, 2.7): where it begins and its length, or its value;
 -- or the table's number and nothing else.
-use Rattle.refusal.specs.{ℕ, Answer, accepted, refused, number_of}
+use Rattle.refusal.specs.{Answer, accepted, refused, number_of}
 use Rattle.wire.specs.{Number, Part}
 use Rattle.norrabist_c.specs.declared.{lists.ItemTold.ItemTold, lists.NumberTold.NumberTold}
 

@@ -4,7 +4,6 @@ use native.Mathlib.Omega.{arith}
 use Rattle.refusal.proofs.Told.{case}
 use Rattle.read_certs.specs.Certs.{request_says}
 use Rattle.norrabist_c.proofs.BodyParts.{names-len, pairs_len, types-len}
-use borrow.Author.Rules.{rules}
 use Rattle.norrabist_c.proofs.bodies.norrabist_parse_tls_handshake_certificaterequest.Goals as goal
 
 pub overflow_cast-result : goal.overflow_cast-result

@@ -4,7 +4,6 @@ use native.Mathlib.Omega.{arith}
 use Rattle.refusal.proofs.Told.{case}
 use Rattle.read_certs.specs.Certs.{certificate_says}
 use Rattle.norrabist_c.proofs.BodyParts.{chain_len}
-use borrow.Author.Rules.{rules}
 use Rattle.norrabist_c.proofs.bodies.norrabist_parse_tls_handshake_msg_certificate.Goals as goal
 
 pub overflow_cast-result : goal.overflow_cast-result

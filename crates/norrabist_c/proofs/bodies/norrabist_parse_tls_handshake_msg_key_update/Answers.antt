@@ -4,7 +4,6 @@ use native.Mathlib.Omega.{arith}
 use Rattle.refusal.proofs.Told.{case}
 use Rattle.wire.specs.Numbers.{number_says}
 use Rattle.wire.proofs.Numbers.{below_limit}
-use borrow.Author.Rules.{rules}
 use Rattle.norrabist_c.proofs.bodies.norrabist_parse_tls_handshake_msg_key_update.Goals as goal
 
 pub overflow_cast-result : goal.overflow_cast-result

@@ -2,7 +2,6 @@
 -- lifetime and the ticket's length that were read, or the refusal's number. Assumes nothing.
 use Rattle.refusal.proofs.Told.{case}
 use Rattle.read_others.specs.Body.{ticket_says}
-use borrow.Author.Rules.{rules}
 use Rattle.norrabist_c.proofs.bodies.norrabist_parse_tls_handshake_msg_newsessionticket.Goals as goal
 
 pub returns-in-Refused : goal.returns-in-Refused

@@ -4,7 +4,6 @@ use native.Mathlib.Omega.{arith}
 use Rattle.refusal.proofs.Told.{case}
 use Rattle.read_others.specs.Body.{next_protocol_says}
 use Rattle.norrabist_c.proofs.BodyParts.{padding_len, protocol_len}
-use borrow.Author.Rules.{rules}
 use Rattle.norrabist_c.proofs.bodies.norrabist_parse_tls_handshake_next_protocol.Goals as goal
 
 pub overflow_cast-result : goal.overflow_cast-result

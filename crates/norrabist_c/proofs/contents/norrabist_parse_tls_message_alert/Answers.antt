@@ -1,7 +1,6 @@
 -- `norrabist_c::contents::norrabist_parse_tls_message_alert` meets its contract. Assumes nothing.
 use Rattle.refusal.proofs.Told.{case}
 use Rattle.content.specs.Contents.{alert_says}
-use borrow.Author.Rules.{rules}
 use Rattle.norrabist_c.proofs.contents.norrabist_parse_tls_message_alert.Goals as goal
 
 pub returns-in-Refused : goal.returns-in-Refused

@@ -2,7 +2,6 @@
 -- nothing.
 use Rattle.refusal.proofs.Told.{case}
 use Rattle.wire.specs.Numbers.{number_says}
-use borrow.Author.Rules.{rules}
 use Rattle.norrabist_c.proofs.contents.norrabist_parse_tls_message_changecipherspec.Goals as goal
 
 pub returns-in-Refused : goal.returns-in-Refused

@@ -2,7 +2,6 @@
 -- nothing.
 use Rattle.refusal.proofs.Told.{case}
 use Rattle.content.specs.Contents.{heartbeat_says}
-use borrow.Author.Rules.{rules}
 use Rattle.norrabist_c.proofs.contents.norrabist_parse_tls_message_heartbeat.Goals as goal
 
 pub returns-in-Refused : goal.returns-in-Refused

@@ -5,7 +5,6 @@ use native.Mathlib.Omega.{arith}
 use Rattle.read_ext.proofs.Blocks.{place_item}
 use Rattle.norrabist_c.specs.Extensions.{extension_told}
 use Rattle.norrabist_c.proofs.ExtensionParts.{item_below, tellable}
-use borrow.Author.Rules.{rules}
 use Rattle.norrabist_c.proofs.extensions.norrabist_extension_at.Goals as goal
 
 pub told_of-requires : goal.told_of-requires

@@ -1,7 +1,6 @@
 -- `norrabist_c::extensions::norrabist_gen_tls_extensions` meets its contract, by that of the
 -- writer. Assumes nothing.
 use Rattle.norrabist_c.proofs.WrittenTexts.{exported}
-use borrow.Author.Rules.{rules}
 use Rattle.norrabist_c.proofs.extensions.norrabist_gen_tls_extensions.Goals as goal
 
 pub returns : goal.returns

@@ -2,7 +2,6 @@
 -- index and the refusal's number. Assumes nothing.
 use Rattle.read_ext.specs.Extensions.{extensions_says}
 use Rattle.norrabist_c.proofs.ExtensionParts.{case_in}
-use borrow.Author.Rules.{rules}
 use Rattle.norrabist_c.proofs.extensions.norrabist_parse_tls_extensions.Goals as goal
 
 pub returns-in-Damaged : goal.returns-in-Damaged

@@ -3,7 +3,6 @@
 use native.Mathlib.Omega.{arith}
 use Rattle.refusal.proofs.Told.{case}
 use Rattle.list.specs.Tagged.{tagged_says}
-use borrow.Author.Rules.{rules}
 use Rattle.norrabist_c.proofs.extensions.norrabist_server_name_from.Goals as goal
 
 pub overflow_cast-result : goal.overflow_cast-result

@@ -1,7 +1,6 @@
 -- `norrabist_c::extensions::told_of` meets its contract: what is told, case by case. Assumes
 -- nothing.
 use native.Mathlib.Omega.{arith}
-use borrow.Author.Rules.{rules}
 use Rattle.norrabist_c.proofs.extensions.told_of.Goals as goal
 
 pub overflow_cast-result : goal.overflow_cast-result

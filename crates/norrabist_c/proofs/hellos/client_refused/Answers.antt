@@ -1,5 +1,4 @@
 -- `norrabist_c::hellos::client_refused` meets its contract. Assumes nothing.
-use borrow.Author.Rules.{rules}
 use Rattle.norrabist_c.proofs.hellos.client_refused.Goals as goal
 
 pub returns : goal.returns

@@ -1,7 +1,6 @@
 -- `norrabist_c::hellos::client_told` meets its contract: every length fits where it is told.
 -- Assumes nothing.
 use native.Mathlib.Omega.{arith}
-use borrow.Author.Rules.{rules}
 use Rattle.norrabist_c.proofs.hellos.client_told.Goals as goal
 
 pub overflow_cast-result-2 : goal.overflow_cast-result-2

@@ -3,7 +3,6 @@ use native.Mathlib.Omega.{arith}
 use Rattle.refusal.proofs.Told.{case}
 use Rattle.read_server.specs.Server.{draft18_says}
 use Rattle.norrabist_c.proofs.HelloLengths.{draft18-ext-len}
-use borrow.Author.Rules.{rules}
 use Rattle.norrabist_c.proofs.hellos.draft18_told.Goals as goal
 
 pub overflow_cast-result : goal.overflow_cast-result

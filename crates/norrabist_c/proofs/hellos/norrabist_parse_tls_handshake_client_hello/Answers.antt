@@ -3,7 +3,6 @@
 use Rattle.refusal.proofs.Told.{case}
 use Rattle.read_client.specs.Client.{client_says}
 use Rattle.norrabist_c.proofs.HelloLengths.{client-fits}
-use borrow.Author.Rules.{rules}
 use Rattle.norrabist_c.proofs.hellos.norrabist_parse_tls_handshake_client_hello.Goals as goal
 
 pub client_told-requires : goal.client_told-requires

@@ -5,7 +5,6 @@ use Rattle.wire.specs.Numbers.{Bytes}
 use Rattle.read_client.specs.Client.{client_says}
 use Rattle.read_client.proofs.Strict.{strict_demand3}
 use Rattle.norrabist_c.proofs.HelloLengths.{client-fits}
-use borrow.Author.Rules.{rules}
 use Rattle.norrabist_c.proofs.hellos.norrabist_parse_tls_handshake_client_hello_strict.Goals as goal
 
 pub client_told-requires : goal.client_told-requires

@@ -4,7 +4,6 @@ use native.Mathlib.Omega.{arith}
 use Rattle.refusal.proofs.Told.{case}
 use Rattle.read_others.specs.Body.{retry_says}
 use Rattle.norrabist_c.proofs.HelloLengths.{retry-ext-len}
-use borrow.Author.Rules.{rules}
 use Rattle.norrabist_c.proofs.hellos.norrabist_parse_tls_handshake_msg_hello_retry_request.Goals as goal
 
 pub overflow_cast-result : goal.overflow_cast-result

@@ -23,7 +23,6 @@ use Rattle.grammar.specs.Forms.{by_version, reading}
 use Rattle.read_server.specs.Server.{draft18, server_versions}
 use Rattle.open_hellos.specs.HelloMessages.{server_message}
 use Rattle.norrabist_c.specs.Hellos.{draft18_told, server_message_told, server_told}
-use borrow.Author.Rules.{rules}
 use Rattle.norrabist_c.proofs.hellos.norrabist_parse_tls_handshake_msg_server_hello.Goals as goal
 
 as-draft18 : (a : Answer TlsServerHelloV13Draft18Contents) → draft18_told a

@@ -5,7 +5,6 @@ use Rattle.refusal.proofs.Told.{case}
 use Rattle.wire.specs.Numbers.{number_says}
 use Rattle.grammar.specs.Forms.{by_version}
 use Rattle.norrabist_c.proofs.ServerVersions.{announced, unlisted}
-use borrow.Author.Rules.{rules}
 use Rattle.norrabist_c.proofs.hellos.norrabist_parse_tls_handshake_server_hello.Goals as goal
 
 pub returns-in-Refused : goal.returns-in-Refused

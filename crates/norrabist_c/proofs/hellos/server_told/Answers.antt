@@ -4,7 +4,6 @@ use native.Mathlib.Omega.{arith}
 use Rattle.refusal.proofs.Told.{case}
 use Rattle.read_server.specs.Server.{server_says}
 use Rattle.norrabist_c.proofs.HelloLengths.{server-ext-len, server-id-len}
-use borrow.Author.Rules.{rules}
 use Rattle.norrabist_c.proofs.hellos.server_told.Goals as goal
 
 pub overflow_cast-result : goal.overflow_cast-result

@@ -4,7 +4,6 @@ use native.Mathlib.Omega.{arith}
 use Rattle.refusal.proofs.Told.{case}
 use Rattle.wire.specs.Parts.{part_says}
 use Rattle.norrabist_c.proofs.BodyParts.{item_len}
-use borrow.Author.Rules.{rules}
 use Rattle.norrabist_c.proofs.lists.norrabist_name_at.Goals as goal
 
 pub overflow_cast-result : goal.overflow_cast-result

@@ -4,7 +4,6 @@ use native.Mathlib.Omega.{arith}
 use Rattle.refusal.proofs.Told.{case}
 use Rattle.wire.specs.Numbers.{Bytes, number_says}
 use Rattle.norrabist_c.proofs.BodyParts.{number_len}
-use borrow.Author.Rules.{rules}
 use Rattle.norrabist_c.proofs.lists.norrabist_number_at.Goals as goal
 
 pub overflow_cast-result : goal.overflow_cast-result

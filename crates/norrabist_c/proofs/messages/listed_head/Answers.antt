@@ -1,10 +1,7 @@
 -- `norrabist_c::messages::listed_head` meets its contract. Assumes nothing.
 use Rattle.refusal.proofs.Told.{case}
-use mathlib.Core.Path.{◌≡◌, refl, ap}
 use Rattle.envelope.specs.Opening.{head_says}
 use Rattle.norrabist_c.specs.Heads.{listed_head}
-use Rattle.refusal.specs.Answers.{refused}
-use borrow.Author.Rules.{rules}
 use Rattle.norrabist_c.proofs.messages.listed_head.Goals as goal
 
 pub returns-in-Refused : goal.returns-in-Refused

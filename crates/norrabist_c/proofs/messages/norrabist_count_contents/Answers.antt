@@ -1,5 +1,4 @@
 -- `norrabist_c::messages::norrabist_count_contents` meets its contract. Assumes nothing.
-use borrow.Author.Rules.{rules}
 use Rattle.norrabist_c.proofs.messages.norrabist_count_contents.Goals as goal
 
 pub returns : goal.returns

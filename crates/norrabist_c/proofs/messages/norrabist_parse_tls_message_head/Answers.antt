@@ -3,7 +3,6 @@ use native.Mathlib.Omega.{arith}
 use Rattle.refusal.proofs.Told.{case}
 use Rattle.envelope.specs.Opening.{head_says}
 use Rattle.norrabist_c.proofs.HeadLengths.{listed_len}
-use borrow.Author.Rules.{rules}
 use Rattle.norrabist_c.proofs.messages.norrabist_parse_tls_message_head.Goals as goal
 
 pub overflow_cast-result : goal.overflow_cast-result

@@ -1,5 +1,4 @@
 -- `norrabist_c::parts::opt_told` meets its contract: by the form of the part. Assumes nothing.
-use borrow.Author.Rules.{rules}
 use Rattle.norrabist_c.proofs.parts.opt_told.Goals as goal
 
 pub returns-in-Absent : goal.returns-in-Absent

@@ -6,7 +6,6 @@ use Rattle.refusal.proofs.Told.{case}
 use Rattle.content_walk.specs.ContentWalks.{past_says}
 use Rattle.envelope.specs.Opening.{head_says}
 use Rattle.norrabist_c.proofs.ContentHeads.{other_got, other_refused, own_got, own_refused}
-use borrow.Author.Rules.{rules}
 use Rattle.norrabist_c.proofs.records.content_head.Goals as goal
 
 pub returns-in-Refused : goal.returns-in-Refused

@@ -7,7 +7,6 @@ use Rattle.record.specs.Records.{raw_says}
 use Rattle.norrabist_c.specs.Heads.{plain_head}
 use Rattle.norrabist_c.proofs.ContentHeads.{own_got, own_refused}
 use Rattle.norrabist_c.proofs.HeadLengths.{content_len}
-use borrow.Author.Rules.{rules}
 use Rattle.norrabist_c.proofs.records.norrabist_parse_tls_plaintext.Goals as goal
 
 pub returns-in-Refused : goal.returns-in-Refused

@@ -1,7 +1,6 @@
 -- `norrabist_c::records::norrabist_parse_tls_record_header` meets its contract. Assumes nothing.
 use Rattle.refusal.proofs.Told.{case}
 use Rattle.record.specs.Records.{header_says}
-use borrow.Author.Rules.{rules}
 use Rattle.norrabist_c.proofs.records.norrabist_parse_tls_record_header.Goals as goal
 
 pub returns-in-Refused : goal.returns-in-Refused

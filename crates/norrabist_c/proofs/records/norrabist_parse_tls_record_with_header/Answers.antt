@@ -4,7 +4,6 @@ use native.Mathlib.Omega.{arith}
 use Rattle.refusal.proofs.Told.{case}
 use Rattle.envelope.specs.Opening.{head_says}
 use Rattle.norrabist_c.proofs.HeadLengths.{first_len}
-use borrow.Author.Rules.{rules}
 use Rattle.norrabist_c.proofs.records.norrabist_parse_tls_record_with_header.Goals as goal
 
 pub overflow_cast-result : goal.overflow_cast-result

@@ -1,7 +1,6 @@
 -- `norrabist_c::records::norrabist_tls_parser_many` meets its contract. Assumes nothing.
 use Rattle.refusal.proofs.Told.{case}
 use Rattle.record_many.specs.Many.{many_says}
-use borrow.Author.Rules.{rules}
 use Rattle.norrabist_c.proofs.records.norrabist_tls_parser_many.Goals as goal
 
 pub returns-in-Refused : goal.returns-in-Refused

@@ -1,5 +1,4 @@
 -- `norrabist_c::records::plaintext_refused` meets its contract. Assumes nothing.
-use borrow.Author.Rules.{rules}
 use Rattle.norrabist_c.proofs.records.plaintext_refused.Goals as goal
 
 pub returns : goal.returns

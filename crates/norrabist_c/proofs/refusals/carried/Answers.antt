@@ -1,5 +1,4 @@
 -- `norrabist_c::refusals::carried` meets its contract: the number of the reason. Assumes nothing.
-use borrow.Author.Rules.{rules}
 use Rattle.norrabist_c.proofs.refusals.carried.Goals as goal
 
 pub returns : goal.returns

@@ -1,14 +1,12 @@
 -- `norrabist_c::refusals::norrabist_refusal` meets its contract: the number decides. Assumes
 -- nothing.
 use mathlib.Core.Bool.{false, ◌&&◌}
-use mathlib.Core.Logic.{⊎_elim}
 use mathlib.Core.Path.{◌≡◌}
 use native.Mathlib.Omega.{arith}
 use borrow.Author.Tests.{ne_eqb}
 use lib.Dec.{leb, ltb}
 use Rattle.norrabist_c.specs.Readers.{answer_of}
 use Rattle.norrabist_c.proofs.Verdicts.{above_contents, below_contents, by_content, by_type_lem, unlisted}
-use borrow.Author.Rules.{rules}
 use Rattle.norrabist_c.proofs.refusals.norrabist_refusal.Goals as goal
 use Rattle.norrabist_c.proofs.refusals.norrabist_refusal.Goals.{in_default-via-then-reader-lt512, in_default-via-else-reader-lt512+else-reader-lt768}
 use Prim.Native.Nat.{◌<◌, ◌≤◌}

@@ -2,7 +2,6 @@
 -- none. Assumes nothing.
 use Rattle.refusal.proofs.Told.{case}
 use Rattle.read_client.specs.Client.{client_says}
-use borrow.Author.Rules.{rules}
 use Rattle.norrabist_c.proofs.refusals.of_client_strict.Goals as goal
 
 pub returns-in-Refused : goal.returns-in-Refused

@@ -3,7 +3,6 @@
 use Rattle.refusal.proofs.Told.{case}
 use Rattle.content_walk.specs.ContentWalks.{past_says}
 use Rattle.norrabist_c.proofs.Verdicts.{past}
-use borrow.Author.Rules.{rules}
 use Rattle.norrabist_c.proofs.refusals.of_content.Goals as goal
 
 pub returns-in-Refused : goal.returns-in-Refused

@@ -2,7 +2,6 @@
 -- Assumes nothing.
 use Rattle.refusal.proofs.Told.{case}
 use Rattle.record.specs.Records.{header_says}
-use borrow.Author.Rules.{rules}
 use Rattle.norrabist_c.proofs.refusals.of_header.Goals as goal
 
 pub returns-in-Refused : goal.returns-in-Refused

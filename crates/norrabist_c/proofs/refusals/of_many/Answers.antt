@@ -2,7 +2,6 @@
 -- nothing.
 use Rattle.refusal.proofs.Told.{case}
 use Rattle.record_many.specs.Many.{many_says}
-use borrow.Author.Rules.{rules}
 use Rattle.norrabist_c.proofs.refusals.of_many.Goals as goal
 
 pub returns-in-Refused : goal.returns-in-Refused

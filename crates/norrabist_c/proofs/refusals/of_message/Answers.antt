@@ -3,7 +3,6 @@
 use Rattle.refusal.proofs.Told.{case}
 use Rattle.envelope.specs.Opening.{head_says}
 use Rattle.norrabist_c.proofs.Verdicts.{met}
-use borrow.Author.Rules.{rules}
 use Rattle.norrabist_c.proofs.refusals.of_message.Goals as goal
 
 pub returns-in-Refused : goal.returns-in-Refused

@@ -2,7 +2,6 @@
 -- Assumes nothing.
 use Rattle.refusal.proofs.Told.{case}
 use Rattle.record_open.specs.Plaintext.{opened_says}
-use borrow.Author.Rules.{rules}
 use Rattle.norrabist_c.proofs.refusals.of_plaintext.Goals as goal
 
 pub returns-in-Refused : goal.returns-in-Refused

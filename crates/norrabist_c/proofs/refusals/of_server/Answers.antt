@@ -2,7 +2,6 @@
 -- Assumes nothing.
 use Rattle.refusal.proofs.Told.{case}
 use Rattle.read_server.specs.Server.{server_says}
-use borrow.Author.Rules.{rules}
 use Rattle.norrabist_c.proofs.refusals.of_server.Goals as goal
 
 pub returns-in-Refused : goal.returns-in-Refused

@@ -1,7 +1,6 @@
 -- `norrabist_c::writers::norrabist_gen_tls_clientkeyexchange` meets its contract, by that of the
 -- writer. Assumes nothing.
 use Rattle.norrabist_c.proofs.WrittenTexts.{exported}
-use borrow.Author.Rules.{rules}
 use Rattle.norrabist_c.proofs.writers.norrabist_gen_tls_clientkeyexchange.Goals as goal
 
 pub returns : goal.returns

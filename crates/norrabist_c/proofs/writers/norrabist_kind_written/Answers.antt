@@ -5,7 +5,6 @@ use Rattle.refusal.specs.Refusals.{number_of}
 use Rattle.refusal.specs.declared.Refusal.{Refusal}
 use Rattle.refusal.proofs.Told.{unplaced_reason}
 use Rattle.norrabist_c.proofs.WrittenTexts.{kind_first, kind_more, kind_other}
-use borrow.Author.Rules.{rules}
 use Rattle.norrabist_c.proofs.writers.norrabist_kind_written.Goals as goal
 
 pub returns-in_default : goal.returns-in_default

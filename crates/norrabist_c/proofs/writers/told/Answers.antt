@@ -1,5 +1,4 @@
 -- `norrabist_c::writers::told` meets its contract: each answer has its number. Assumes nothing.
-use borrow.Author.Rules.{rules}
 use Rattle.norrabist_c.proofs.writers.told.Goals as goal
 
 pub returns-in-Refused : goal.returns-in-Refused
