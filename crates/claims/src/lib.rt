@@ -1,5 +1,7 @@
 // What is claimed of the whole: three functions that compute nothing and promise it. The pages to
 // read are `specs/Claims.antt` and `specs/ExtensionClaims.antt`.
+#![tactic(auto)]
+
 ghost use Rattle.claims.specs.Claims.{Claims};
 ghost use Rattle.claims.specs.ExtensionClaims.{ExtensionClaims};
 ghost use Rattle.wire.specs.Numbers.{Bytes};

@@ -1,4 +1,6 @@
 // What users name: the public types and functions of the layers, in one crate.
+#![tactic(auto)]
+
 pub use cert_reader::TlsCertificateReader;
 pub use cert_reader::issuer_certificate;
 pub use cert_reader::sender_certificate;

@@ -40,30 +40,29 @@ use Rattle.claim_rows.proofs.Rows.{each_row}
 use Rattle.claim_readers.proofs.Table.{every_reading}
 use Rattle.claim_writers.proofs.Writers.{every_writing}
 use Rattle.claims.proofs.Crossed.{header_and_record, tells_its_type, every_type, these_written}
-use Rattle.claims.proofs.all_claims.Statement.{statement}
-use Rattle.claims.proofs.all_claims.Tie as tie
+use Rattle.claims.proofs.all_claims.Goals as goal
 
-returns : tie.Need-returns
+pub returns : goal.returns
 returns c = record {
   table = numbers_apart;
   one_part = one_part_lem;
   one_number_of = one_number;
   one_write = one_write_lem;
   one_start = one_start_lem;
-  one_client = client.one-client;
-  one_server = server.one-server;
-  one_draft18 = server.one-draft18;
-  one_certificate = certs.one-certificate;
-  one_request = certs.one-request;
-  one_status = certs.one-status;
-  one_retry = body.one-retry;
-  one_ticket = body.one-ticket;
-  one_next_protocol = body.one-next-protocol;
+  one_client = client.one_client_lem;
+  one_server = server.one_server_lem;
+  one_draft18 = server.one_draft18_lem;
+  one_certificate = certs.one_certificate_lem;
+  one_request = certs.one_request_lem;
+  one_status = certs.one_status_lem;
+  one_retry = body.one_retry_lem;
+  one_ticket = body.one_ticket_lem;
+  one_next_protocol = body.one_next_protocol_lem;
   one_message = one_message_lem;
   one_head = one_head_lem;
-  one_header = records.one-header;
-  one_raw = records.one-raw;
-  one_encrypted = records.one-encrypted;
+  one_header = records.one_header_lem;
+  one_raw = records.one_raw_lem;
+  one_encrypted = records.one_encrypted_lem;
   one_plaintext = one_plaintext_lem;
   one_opened = one_opened_lem;
   one_content = one_content_lem;
@@ -75,39 +74,39 @@ returns c = record {
   numbers = every_width;
   reads_client = client.demand3;
   reads_server = server.demand3;
-  reads_draft18 = server.demand3-draft18;
-  reads_by_version = server.demand3-by-version;
+  reads_draft18 = server.demand3_draft18;
+  reads_by_version = server.demand3_by_version;
   reads_as_message = hellos.demand3;
-  reads_strict = strict.strict-demand3;
-  tells_strict = strict.tells-exactness;
+  reads_strict = strict.strict_demand3;
+  tells_strict = strict.tells_exactness;
   every_text = every_text_lem;
-  writes_client = back.writes-client;
-  writes_strict = back.writes-strict;
-  writes_server = back.writes-server;
-  writes_draft18 = back.writes-draft18;
-  writes_by_version = back.writes-by-version;
-  writes_one_text = back.one-text;
-  again_client = back.again-client;
-  again_server = back.again-server;
-  again_draft18 = back.again-draft18;
-  again_by_version = back.again-by-version;
+  writes_client = back.writes_client_lem;
+  writes_strict = back.writes_strict_lem;
+  writes_server = back.writes_server_lem;
+  writes_draft18 = back.writes_draft18_lem;
+  writes_by_version = back.writes_by_version_lem;
+  writes_one_text = back.one_text;
+  again_client = back.again_client_lem;
+  again_server = back.again_server_lem;
+  again_draft18 = back.again_draft18_lem;
+  again_by_version = back.again_by_version_lem;
   lists = by_items;
   none_more_of = none_more;
   names = by_items (sized 2) (omega arith);
   certificates = by_items (sized 3) (omega arith);
   methods = by_items (fixed 1) (omega arith);
   ciphers = by_items (fixed 2) (omega arith);
-  splits_certificate = certs.splits-certificate;
-  splits_request = certs.splits-request;
-  chooses = certs.of-request;
-  splits_status = certs.splits-status;
-  splits_retry = body.splits-retry;
-  splits_next_protocol = body.splits-next-protocol;
+  splits_certificate = certs.splits_certificate_lem;
+  splits_request = certs.splits_request_lem;
+  chooses = certs.of_request_lem;
+  splits_status = certs.splits_status_lem;
+  splits_retry = body.splits_retry_lem;
+  splits_next_protocol = body.splits_next_protocol_lem;
   closing = every_closing;
   closing_length = every_length;
-  splits_ticket = body.splits-ticket;
-  ticket = body.of-ticket;
-  splits_record = records.all-records;
+  splits_ticket = body.splits_ticket_lem;
+  ticket = body.of_ticket_lem;
+  splits_record = records.all_records;
   no_record_more = no_record_more_lem;
   walks = every_walk;
   contents = every_content;
@@ -130,6 +129,3 @@ returns c = record {
   writers_say = every_writing;
   writers_type = every_type;
 }
-
-pub all_claims_spec : {M : Type 1} → statement M
-all_claims_spec = tie.close (tie.spec returns)
