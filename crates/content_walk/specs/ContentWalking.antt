@@ -1,8 +1,8 @@
 -- What is shown of the messages of every content, and of the walk over them: RULES 6.4, 6.6 to 6.8.
 -- Shown by `proofs/Walking.antt`.
 use Rattle.std.specs.Prelude.{◌+◌, ◌≤◌, ◌≡◌, ◌∷◌}
-use Rattle.refusal.specs.{ℕ, suc, List, [], Bool, true, false, length, refusal, accepted, refused, NoSuch, Refusal, giving}
-use Rattle.list.specs.{items_from, place, or_no_such, end_of, Stops}
+use Rattle.refusal.specs.{ℕ, suc, List, [], true, false, length, refusal, accepted, refused, NoSuch, Refusal, giving}
+use Rattle.list.specs.{items_from, place, end_of, Stops}
 use Rattle.content_walk.specs.ContentWalks.{found_at, is_single, messages_of, dropped_of, next_message, moved, walk_after}
 use Rattle.content_walk.specs.declared.{TlsFound.TlsFound, TlsRecordWalk.TlsRecordWalk}
 

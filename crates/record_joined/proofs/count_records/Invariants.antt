@@ -1,17 +1,10 @@
 -- `record_joined::count_records` meets its contract: what was counted and what is left are all the
 -- records. Assumes nothing.
-use Prim.Native.Nat.{ℕ, ◌+◌, ◌-◌, ◌≤◌}
-use mathlib.Core.Path.{◌≡◌, sym, ap, ◌∙◌}
-use mathlib.Core.List.{List, foldl, foldr}
-use native.Mathlib.Omega.{arith}
-use borrow.Author.Rules.{rules}
+use Prim.Native.Nat.{◌+◌, ◌-◌, ◌≤◌}
+use mathlib.Core.Path.{◌≡◌}
 use lib.ListN.{length}
-use Rattle.refusal.proofs.Told.{case}
-use Rattle.list.proofs.Walk.{rest_all, rest_on, rest_end}
-use Rattle.record.specs.Records.{raw_says}
-use Rattle.record.specs.declared.TlsRawRecord.{TlsRawRecord}
-use Rattle.record_joined.specs.Joined.{record_from, records, messages_in, tallied}
-use Rattle.record_joined.proofs.Joined.{message_sum, past_records, left, by_records, from_lies, few_messages}
+use Rattle.record_joined.specs.Joined.{records}
+use Rattle.record_joined.proofs.Joined.{message_sum, past_records, left}
 use Rattle.record_joined.proofs.count_records.Given as goal
 
 abbrev pub invariant-loop-r : goal.invariant-loop-r

@@ -6,7 +6,6 @@ use Rattle.record.specs.Records.{raw_says}
 use Rattle.content_walk.specs.ContentWalks.{past_says}
 use Rattle.record_open.specs.Plaintext.{record_met}
 use Rattle.record_open.proofs.Opened.{met_refused, met_got}
-use borrow.Author.Rules.{rules}
 use Rattle.record_open.proofs.meet_tls_record.Goals as goal
 
 pub returns-in-Refused : goal.returns-in-Refused

@@ -1,13 +1,11 @@
 -- `record_open::open_first` meets its contract: not opened, refused, or the first message is found.
 -- Assumes nothing.
 use mathlib.Core.Path.{sym, ap, ◌∙◌}
-use borrow.Author.Tests.{not-true, not-false}
 use Rattle.refusal.specs.Answers.{refused}
 use Rattle.refusal.proofs.Told.{case}
 use Rattle.content_walk.specs.ContentWalks.{found_says}
 use Rattle.record_open.specs.Plaintext.{contents}
 use Rattle.record_open.proofs.Opened.{first_closed, first_refused, first_got}
-use borrow.Author.Rules.{rules}
 use Rattle.record_open.proofs.open_first.Goals as goal
 
 pub returns-then-not-is_opened : goal.returns-then-not-is_opened

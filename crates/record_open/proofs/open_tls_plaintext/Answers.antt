@@ -3,7 +3,6 @@
 use Rattle.refusal.proofs.Told.{case}
 use Rattle.record.specs.Records.{raw_says}
 use Rattle.record_open.specs.Plaintext.{opened_first}
-use borrow.Author.Rules.{rules}
 use Rattle.record_open.proofs.open_tls_plaintext.Goals as goal
 
 pub returns-in-Refused : goal.returns-in-Refused

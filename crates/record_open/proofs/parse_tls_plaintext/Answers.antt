@@ -2,7 +2,6 @@
 -- finds. Assumes nothing.
 use Rattle.refusal.proofs.Told.{case}
 use Rattle.record_open.specs.Plaintext.{opened_says, plaintext}
-use borrow.Author.Rules.{rules}
 use Rattle.record_open.proofs.parse_tls_plaintext.Goals as goal
 
 pub returns-in-Refused : goal.returns-in-Refused

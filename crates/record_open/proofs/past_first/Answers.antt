@@ -1,13 +1,11 @@
 -- `record_open::past_first` meets its contract: not opened, refused, or the first message is found.
 -- Assumes nothing.
 use mathlib.Core.Path.{sym, ap, ◌∙◌}
-use borrow.Author.Tests.{not-true, not-false}
 use Rattle.refusal.specs.Answers.{refused}
 use Rattle.refusal.proofs.Told.{case}
 use Rattle.content_walk.specs.ContentWalks.{past_says}
 use Rattle.content_walk.proofs.Found.{past_got, past_not}
 use Rattle.record_open.proofs.Opened.{first_closed, first_refused, first_got}
-use borrow.Author.Rules.{rules}
 use Rattle.record_open.proofs.past_first.Goals as goal
 
 pub returns-then-not-is_opened : goal.returns-then-not-is_opened
