@@ -214,8 +214,6 @@ enum norrabist_reader {
     NORRABIST_READER_HEARTBEAT = 0x0109,
     /* norrabist_parse_tls_handshake_client_hello_strict */
     NORRABIST_READER_CLIENT_HELLO_STRICT = 0x010a,
-    /* norrabist_parse_tls_extensions */
-    NORRABIST_READER_EXTENSIONS = 0x010b,
     /* plus the type of a record: its content with the first message, body included */
     NORRABIST_READER_CONTENT = 0x0200
 };

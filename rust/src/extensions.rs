@@ -14,8 +14,7 @@ pub use write::*;
 
 use crate::ffi;
 use crate::lists::List;
-use crate::refusal::{refused, Reason, Refusal};
-use crate::table::reader;
+use crate::refusal::{numbered, Reason, Refusal};
 use core::fmt;
 
 /// The number told at the front of a block that has no byte.
@@ -173,5 +172,6 @@ pub fn parse_tls_extensions(i: &[u8]) -> Result<(&[u8], TlsExtensions<'_>), Dama
 #[cold]
 #[inline(never)]
 fn damage(block: &[u8]) -> Damage {
-    Damage { refusal: refused(reader::EXTENSIONS, block, 0), index: ffi::count_extensions(block).items }
+    let told = ffi::count_extensions(block);
+    Damage { refusal: numbered(told.number), index: told.items }
 }

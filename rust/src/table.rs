@@ -64,8 +64,6 @@ pub(crate) mod reader {
     pub const HEARTBEAT: u16 = 0x0109;
     /// The body of a ClientHello that matches exactly.
     pub const CLIENT_HELLO_STRICT: u16 = 0x010a;
-    /// An extension block.
-    pub const EXTENSIONS: u16 = 0x010b;
 
     /// The content of a record of that type.
     pub const fn content(record_type: u8) -> u16 {

@@ -452,14 +452,10 @@ static void refusals(void) {
     HOLDS(norrabist_refusal(NORRABIST_READER_CONTENT, tag, 2, 0).number == NORRABIST_SWITCH);
     HOLDS(norrabist_refusal(NORRABIST_READER_CLIENT_HELLO_STRICT, tag, 2, 0).number ==
           NORRABIST_INCOMPLETE);
-    HOLDS(norrabist_refusal(NORRABIST_READER_EXTENSIONS, tag, 2, 0).number ==
-          NORRABIST_LENGTH_VALUE);
-    HOLDS(norrabist_refusal(NORRABIST_READER_EXTENSIONS, BLOCK, sizeof BLOCK, 0).number ==
-          NORRABIST_ACCEPTED);
     /* no bytes are SWITCH for a number that is no reader's, and for no other */
     for (reader = NORRABIST_READER_RECORD_HEADER; reader < NORRABIST_READER_CONTENT; reader++)
         HOLDS((norrabist_refusal(reader, tag, 0, 0).number == NORRABIST_SWITCH) ==
-              (reader > NORRABIST_READER_EXTENSIONS));
+              (reader > NORRABIST_READER_CLIENT_HELLO_STRICT));
 }
 
 /* More than a record may hold. */
