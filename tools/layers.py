@@ -4,7 +4,7 @@ import re
 
 import source
 
-KIT = ("io", "libc")
+KIT = ()
 OF_CODE = re.compile(r"(?<![\w:])([a-z_0-9]+)::")
 OF_SPECS = re.compile(r"\bRattle\.([a-z_0-9]+)\.")
 USE = re.compile(r"^(?:pub )?use ([a-z_0-9]+)(?:::\w+)*::(\w+);", re.M)

@@ -151,8 +151,7 @@ pub record Claims : Type 0 where
   pub other_rows : AllRead own_rows
   -- RULES 1.2: every reader with its number by places and lengths, which refusals it gives and that
   -- it gives each; every writer with its number and which refusals it gives, and the type that a
-  -- written message begins with; the same of extension blocks with their index, of extensions
-  -- written, and small ones of both
+  -- written message begins with
   pub readers_say : Readers
   pub writers_say : (s out : List ℕ) → Writers s out
   pub writers_type : (s : List ℕ) (m : TlsMessageHandshake) (t : List ℕ) → handshake_text s m ≡ accepted t → get_or t 0 0 ≡ type_of m

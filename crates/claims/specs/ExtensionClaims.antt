@@ -30,6 +30,7 @@ pub record ExtensionClaims : Type 0 where
   pub ext_values : EveryValue
   pub ext_edges : AtEdge
   pub extensions_told : EveryExtensionBack
+  -- RULES 1.2: extension blocks with their index, extensions written, and small ones of both
   pub block_cases : BlockCases
   pub write_cases : WriteCases
   pub small_blocks : SmallBlocks

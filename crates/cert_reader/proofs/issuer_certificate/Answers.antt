@@ -1,5 +1,5 @@
--- `cert_reader::issuer_certificate` meets its contract: a reader moved once from the front hands out
--- the second item. Assumes nothing.
+-- `cert_reader::issuer_certificate` meets its contract: a reader moved once from the front hands
+-- out the second item. Assumes nothing.
 use Rattle.std.proofs.Common.{◌∙◌, ap}
 use Rattle.cert_reader.specs.Chain.{cert_of, moved_on_of}
 use Rattle.cert_reader.proofs.Same.{second_cert}
