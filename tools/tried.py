@@ -1,6 +1,7 @@
 #!/usr/bin/env python3
-"""tools/tried.py LOGS [--gate] NAME..   tries the edits of these crates, each by itself, and keeps
-                                      all that the prover says of each in LOGS/CRATE/LABEL.log
+"""tools/tried.py LOGS [--gate] NAME..   tries the edits of these crates, or those that are named
+                                      CRATE/LABEL, each by itself, and keeps all that the prover
+                                      says of each in LOGS/CRATE/LABEL.log
 
 Those of crates/NAME/must-fail-more are tried, with --gate those of crates/NAME/must-fail. `rt
 must-fail` tells of an edit the first thing that is refused; here each is made in a copy of the
@@ -71,9 +72,9 @@ def main(words):
     with tempfile.TemporaryDirectory(prefix="edits-") as room:
         copy = pathlib.Path(room)
         copied(ROOT, copy)
-        for crate in names:
+        for crate in dict.fromkeys(name.partition("/")[0] for name in names):
             for edit in source.edits(ROOT, crate):
-                if ("/" in edit.label) == gate:
+                if ("/" in edit.label) == gate or not {crate, edit.title} & set(names):
                     continue
                 log = pathlib.Path(logs) / crate / f"{edit.label}.log"
                 log.parent.mkdir(parents=True, exist_ok=True)
