@@ -3,8 +3,7 @@
 tools/ciphers.py --write   writes them first
 
 The names of cipher suites stand once, in the table of the Rust binding. The program look has them
-from there, as byte strings: a row is a part behind its length of one byte, the number, two bytes,
-and the name. ./papers does the same, with the other papers.
+from there, as the arms of matches. ./papers does the same, with the other papers.
 """
 
 import re
@@ -17,60 +16,34 @@ ROWS = "rust/src/ciphers/rows.rs"
 # the files, each with the number that its rows begin at; src/ciphers.rt picks one
 FILES = {"pages_00.rt": "0000", "pages_c0.rt": "c000"}
 ROW = re.compile(r"^    0x([0-9a-f]{4}) (\w+):", re.M)
-# a byte string is proved in a time that grows with the square of its length
-LONGEST, MOST = 1600, 33
+# a match is proved in a time that grows with the square of its arms
+MOST = 32
 
 HEAD = """\
 // The names of cipher suites by their numbers, in pages; made by ./papers --write from
-// rust/src/ciphers/rows.rs. A row is a part behind its length of one byte: the number, two bytes,
-// and the name.
-use crate::ciphers::find;
-use std::io::{self, Write};
+// rust/src/ciphers/rows.rs.
+// stays: pages of 32 at most, since a match of all takes the prover minutes.
 """
 # what each function is handed, and what it hands back
-PARAMETERS = "to: &mut impl Write, n: usize) -> io::Result<()>"
+PARAMETERS = "n: u16) -> Option<&'static str>"
 
 
-def pages(rows):
-    """The rows, cut where a page would be too long."""
-    found, size = [[]], 0
-    for number, name in rows:
-        size += 3 + len(name)
-        if size > LONGEST or len(found[-1]) == MOST:
-            found.append([])
-            size = 3 + len(name)
-        found[-1].append((number, name))
-    return found
+def match(arms):
+    """The body that picks one of these arms, or none."""
+    return f"{{\n    match n {{\n{''.join(f'        {arm},{chr(10)}' for arm in [*arms, '_ => None'])}    }}\n}}\n"
 
 
 def page(place, rows):
     """The function of a page."""
-    items = [f"\\x{2 + len(name):02x}\\x{number[:2]}\\x{number[2:]}{name}" for number, name in rows]
-    text = "\\\n          ".join(items)
-    return f'fn page_{place}({PARAMETERS} {{\n    find(\n        to,\n        b"{text}",\n        n,\n    )\n}}\n'
-
-
-def choice(firsts, low, high, indent):
-    """The page of a number, by halves."""
-    blank = "    " * indent
-    if high - low == 1:
-        return f"{blank}page_{low}(to, n)\n"
-    middle = (low + high) // 2
-    return (
-        f"{blank}if n < 0x{firsts[middle]} {{\n{choice(firsts, low, middle, indent + 1)}"
-        f"{blank}}} else {{\n{choice(firsts, middle, high, indent + 1)}{blank}}}\n"
-    )
+    return f"fn page_{place}({PARAMETERS} {match(f'0x{number} => Some({chr(34)}{name}{chr(34)})' for number, name in rows)}"
 
 
 def text(rows):
     """A file of these rows."""
-    found = pages(rows)
+    found = [rows[first : first + MOST] for first in range(0, len(rows), MOST)]
+    arms = [f"0x{rows[0][0]}..=0x{rows[-1][0]} => page_{place}(n)" for place, rows in enumerate(found)]
     functions = [page(place, rows) for place, rows in enumerate(found)]
-    firsts = [rows[0][0] for rows in found]
-    last = (
-        "// The name of the cipher suite `n`, behind a blank; nothing where there is none.\n"
-        f"pub(crate) fn say_name({PARAMETERS} {{\n{choice(firsts, 0, len(found), 1)}}}\n"
-    )
+    last = f"// The name of the cipher suite `n`.\npub(crate) fn name({PARAMETERS} {match(arms)}"
     return "\n".join([HEAD, *functions, last])
 
 

@@ -94,6 +94,7 @@ def files(root):
     found[f"crates/{EXPORTS}/src/lib.rt"] = (
         "// What C and Rust link, as a static library: each export calls the function of the same name in\n"
         f"// `{LIBRARY}`, and promises the same. `rust/norrabist.h` declares them. Made by ./papers --write.\n"
+        "// stays: every export is a function of its own; numbers and flags are the C interface.\n"
         f"#![tactic(auto)]\n\n{mods}"
     )
     return found

@@ -74,12 +74,27 @@ def closing(text, at):
     raise ValueError("a bracket is not closed")
 
 
+def behind_parameters(text, at):
+    """The place behind the type parameters that stand at `at`, where there are any."""
+    depth = 0
+    for place in range(at, len(text)):
+        if text[place] == "<":
+            depth += 1
+        elif text[place] == ">" and text[place - 1] != "-":
+            depth -= 1
+        if depth == 0:
+            return place
+    raise ValueError("type parameters are not closed")
+
+
 HEAD = re.compile(
     r'^[ \t]*(pub(?:\([^)]*\))?[ \t]+)?(?:(?:extern[ \t]+"C"|const)[ \t]+)*fn[ \t]+(\w+)', re.M
 )
-TYPE = re.compile(r"^impl(?:<[^>]*>)?[ \t]+(\w+)", re.M)
+TYPE = re.compile(r"^impl(?:<[^>]*>)?[ \t]+(?:[\w:]+(?:<[^>]*>)?[ \t]+for[ \t]+)?(\w+)", re.M)
 RESULT = re.compile(r"\s*->[^{;]*?(?=\s+(?:requires|ensures)\b|\s*[{;])")
-PRINTS = re.compile(r"->\s*io::Result<\(\)>\s*$")
+PRINTS = re.compile(
+    r"->\s*(?:io::Result<\(\)>|fmt::Result|&'static str|Option<&'static str>)\s*$"
+)
 CLAUSE = re.compile(r"\s*(requires|ensures)\*?(?:\s+\w+)?\s*\{")
 # comments, texts and characters in quotes, which may hold brackets of their own
 QUIET = re.compile(r"""//[^\n]*|(?P<kept>extern "C")|"(?:\\.|[^"\\])*"|'(?:\\.|[^'\\])'""")
@@ -94,10 +109,10 @@ def functions_of(crate, file, text):
         blocks.append((opened, closing(text, opened), impl.group(1)))
     found = []
     for head in HEAD.finditer(text):
-        opened = text.index("(", head.end())
+        opened = text.index("(", behind_parameters(text, head.end()))
         closed = closing(text, opened)
         # a writer that is printed to is no value that is handed out
-        taken = re.sub(r"\bto:\s*&\s*mut\b[^,]*", "", text[opened:closed])
+        taken = re.sub(r"\b(?:to:\s*&\s*mut\b|f: &mut fmt::Formatter\b)[^,]*", "", text[opened:closed])
         lent = re.search(r"&\s*(?:'\w+\s+)?mut\b", taken) is not None
         # what stands between the parameters and the body: a result, then clauses
         result = RESULT.match(text, closed + 1)
@@ -109,7 +124,7 @@ def functions_of(crate, file, text):
         visible = "".join((head.group(1) or "").split())
         line = text.count("\n", 0, head.start(2)) + 1
         span = (head.end() - len(head.group().lstrip()), closing(text, text.index("{", at)))
-        # nor is it that printing failed
+        # nor is it that printing failed, nor a name to be printed
         name, has = head.group(2), result is not None and not PRINTS.search(result.group())
         found.append(Function(crate, file, line, span, kind, name, visible, lent, has, said))
     return found

@@ -6,12 +6,14 @@ ghost use Rattle.std.specs.Prelude.{◌≡◌};
 ghost use Rattle.cert_reader.specs.Chain.{at_front, cert_of, moved_on_of, past_or};
 ghost use Rattle.field.specs.Fields.{sized};
 ghost use Rattle.list.specs.Items.{item_from, items, place};
-ghost use Rattle.wire.specs.Parts.{part_says};
+ghost use Rattle.refusal.specs.Answers.{as_answer};
 
+use refusal::Refusal;
 use wire::number::Width;
-use wire::view::PartAnswer;
+use wire::view::Part;
 
 // `list` is the chain's bytes, each certificate behind its length of three bytes.
+// stays: a value and no iterator: a reader with the list and its place is RULES 10.6
 #[derive(Clone, Copy)]
 pub struct TlsCertificateReader<'a> {
     pub list: &'a [u8],
@@ -19,8 +21,8 @@ pub struct TlsCertificateReader<'a> {
 }
 
 // The certificate that begins at `at`.
-fn cert_in(list: &[u8], at: usize) -> PartAnswer
-    ensures { part_says result ≡ item_from (sized 3) list.now at }
+fn cert_in(list: &[u8], at: usize) -> Result<Part, Refusal>
+    ensures { as_answer result ≡ item_from (sized 3) list.now at }
 {
     list::items::item_from(list, at, Width::Three)
 }
@@ -29,10 +31,7 @@ fn cert_in(list: &[u8], at: usize) -> PartAnswer
 fn past_cert(list: &[u8], at: usize) -> usize
     ensures { result ≡ past_or at (item_from (sized 3) list.now at) }
 {
-    match cert_in(list, at) {
-        PartAnswer::Refused(_) => at,
-        PartAnswer::Got(p) => p.next,
-    }
+    cert_in(list, at).map_or(at, |p| p.next)
 }
 
 impl<'a> TlsCertificateReader<'a> {
@@ -44,8 +43,8 @@ impl<'a> TlsCertificateReader<'a> {
     }
 
     // The certificate at the reader's place; past the last one NoSuch.
-    pub fn cert(self) -> PartAnswer
-        ensures { part_says result ≡ cert_of self.entry }
+    pub fn cert(self) -> Result<Part, Refusal>
+        ensures { as_answer result ≡ cert_of self.entry }
     {
         cert_in(self.list, self.at)
     }
@@ -54,24 +53,23 @@ impl<'a> TlsCertificateReader<'a> {
     pub fn moved(self) -> TlsCertificateReader<'a>
         ensures { result ≡ moved_on_of self.entry }
     {
-        let at = past_cert(self.list, self.at);
         TlsCertificateReader {
             list: self.list,
-            at,
+            at: past_cert(self.list, self.at),
         }
     }
 }
 
 // The sender's own certificate, which comes first (RFC 5246 7.4.2).
-pub fn sender_certificate(list: &[u8]) -> PartAnswer
-    ensures { part_says result ≡ place 0 (items (sized 3) list.now) }
+pub fn sender_certificate(list: &[u8]) -> Result<Part, Refusal>
+    ensures { as_answer result ≡ place 0 (items (sized 3) list.now) }
 {
     TlsCertificateReader::new(list).cert()
 }
 
 // The certificate that follows it, and certifies it.
-pub fn issuer_certificate(list: &[u8]) -> PartAnswer
-    ensures { part_says result ≡ place 1 (items (sized 3) list.now) }
+pub fn issuer_certificate(list: &[u8]) -> Result<Part, Refusal>
+    ensures { as_answer result ≡ place 1 (items (sized 3) list.now) }
 {
     TlsCertificateReader::new(list).moved().cert()
 }

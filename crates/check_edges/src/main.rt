@@ -4,156 +4,99 @@
 
 mod writers;
 
-use norrabist::{NumberAnswer, OptView, PartAnswer, Refusal, RuleName, View, Width, WriteAnswer};
+use norrabist::{Number, Part, Refusal, RuleName, View, Width};
 use std::io::{self, Write};
 
 const FAR: usize = 0xffff_ffff_ffff_ffff;
 
-fn say(to: &mut impl Write, text: &[u8]) -> io::Result<()> {
-    to.write_all(text)
-}
-
-fn say_byte(to: &mut impl Write, b: u8) -> io::Result<()> {
-    write!(to, "{b:02x}")
-}
-
-fn say_number(to: &mut impl Write, n: usize) -> io::Result<()> {
-    say(to, b" ")?;
-    write!(to, "{n}")
-}
-
-// A refusal is its number alone.
-fn say_refused(to: &mut impl Write, r: Refusal) -> io::Result<()> {
-    say_number(to, norrabist::refusal_number(r) as usize)?;
-    say(to, b"\n")
-}
-
-fn number(to: &mut impl Write, a: NumberAnswer) -> io::Result<()> {
+// What is called, and its answer: behind a 0 the number and its end, or the number of a refusal
+// alone.
+// stays: `number` and `part` print other fields; by a closure each call would be longer
+fn number(to: &mut impl Write, name: &str, a: Result<Number, Refusal>) -> io::Result<()> {
     match a {
-        NumberAnswer::Refused(r) => say_refused(to, r),
-        NumberAnswer::Got(n) => {
-            say(to, b" 0")?;
-            say_number(to, n.value)?;
-            say_number(to, n.next)?;
-            say(to, b"\n")
-        }
+        Err(r) => writeln!(to, "{name} {}", norrabist::refusal_number(r)),
+        Ok(n) => writeln!(to, "{name} 0 {} {}", n.value, n.next),
     }
 }
 
-fn part(to: &mut impl Write, a: PartAnswer) -> io::Result<()> {
+// The same of a part.
+fn part(to: &mut impl Write, name: &str, a: Result<Part, Refusal>) -> io::Result<()> {
     match a {
-        PartAnswer::Refused(r) => say_refused(to, r),
-        PartAnswer::Got(p) => {
-            let v = p.view;
-            say(to, b" 0")?;
-            say_number(to, v.start)?;
-            say_number(to, v.len)?;
-            say_number(to, p.next)?;
-            say(to, b"\n")
-        }
+        Err(r) => writeln!(to, "{name} {}", norrabist::refusal_number(r)),
+        Ok(p) => writeln!(to, "{name} 0 {} {} {}", p.view.start, p.view.len, p.next),
     }
 }
 
 // The answer to a write into four bytes of 0xaa, and the bytes then.
 fn write(to: &mut impl Write, at: usize, w: Width, n: usize) -> io::Result<()> {
     let mut out = [0xaau8; 4];
-    let a = norrabist::gen_be(&mut out, at, w, n);
-    say(to, b"gen_be")?;
-    match a {
-        WriteAnswer::Refused(r) => say_number(to, norrabist::refusal_number(r) as usize)?,
-        WriteAnswer::Wrote(next) => {
-            say(to, b" 0")?;
-            say_number(to, next)?;
-        }
+    match norrabist::gen_be(&mut out, at, w, n) {
+        Err(r) => write!(to, "gen_be {}", norrabist::refusal_number(r))?,
+        Ok(next) => write!(to, "gen_be 0 {next}")?,
     }
-    say(to, b" ")?;
-    say_byte(to, out[0])?;
-    say_byte(to, out[1])?;
-    say_byte(to, out[2])?;
-    say_byte(to, out[3])?;
-    say(to, b"\n")
-}
-
-fn read(to: &mut impl Write, s: &[u8], at: usize, w: Width) -> io::Result<()> {
-    say(to, b"parse_be")?;
-    number(to, norrabist::parse_be(s, at, w))
+    let [a, b, c, d] = out;
+    writeln!(to, " {a:02x}{b:02x}{c:02x}{d:02x}")
 }
 
 fn view(to: &mut impl Write, s: &[u8], start: usize, len: usize) -> io::Result<()> {
     let p = norrabist::part_of(s, View { start, len });
-    say(to, b"part_of")?;
-    say_number(to, p.len())?;
-    if 0 < p.len() {
-        say(to, b" ")?;
-        say_byte(to, p[0])?;
+    write!(to, "part_of {}", p.len())?;
+    if let Some(first) = p.first() {
+        write!(to, " {first:02x}")?;
     }
-    say(to, b"\n")
+    writeln!(to)
 }
 
 fn behind(to: &mut impl Write, s: &[u8], at: usize, w: Width, rule: RuleName) -> io::Result<()> {
-    say(to, b"length_data")?;
-    part(to, norrabist::length_data(s, at, w, rule))
+    part(to, "length_data", norrabist::length_data(s, at, w, rule))
 }
 
 fn block(to: &mut impl Write, s: &[u8], at: usize) -> io::Result<()> {
     let e = norrabist::opt_length_data(s, at, Width::Two, RuleName::Plain);
-    let v = e.view;
-    say(to, b"opt_length_data")?;
-    match v {
-        OptView::Absent => say(to, b" absent")?,
-        OptView::Present(p) => {
-            say_number(to, p.start)?;
-            say_number(to, p.len)?;
-        }
+    match e.view {
+        None => writeln!(to, "opt_length_data absent {}", e.next),
+        Some(v) => writeln!(to, "opt_length_data {} {} {}", v.start, v.len, e.next),
     }
-    say_number(to, e.next)?;
-    say(to, b"\n")
 }
 
 fn numbers_in(to: &mut impl Write, s: &[u8], w: Width) -> io::Result<()> {
-    say(to, b"number_count")?;
-    say_number(to, norrabist::number_count(s, w))?;
-    say(to, b"\n")?;
-    say(to, b"number_at")?;
-    number(to, norrabist::number_at(s, w, 0))?;
-    say(to, b"number_at")?;
-    number(to, norrabist::number_at(s, w, 1))?;
-    say(to, b"number_at")?;
-    number(to, norrabist::number_at(s, w, 2))?;
-    say(to, b"number_at")?;
-    number(to, norrabist::number_at(s, w, FAR))
+    writeln!(to, "number_count {}", norrabist::number_count(s, w))?;
+    for k in [0, 1, 2, FAR] {
+        number(to, "number_at", norrabist::number_at(s, w, k))?;
+    }
+    Ok(())
 }
 
 fn items_in(to: &mut impl Write, s: &[u8], w: Width) -> io::Result<()> {
-    say(to, b"item_count")?;
-    say_number(to, norrabist::item_count(s, w))?;
-    say(to, b"\n")?;
-    say(to, b"item_at")?;
-    part(to, norrabist::item_at(s, w, 0))?;
-    say(to, b"item_at")?;
-    part(to, norrabist::item_at(s, w, 1))?;
-    say(to, b"item_at")?;
-    part(to, norrabist::item_at(s, w, 2))?;
-    say(to, b"item_from")?;
-    part(to, norrabist::item_from(s, 2, w))?;
-    say(to, b"item_from")?;
-    part(to, norrabist::item_from(s, FAR, w))
+    writeln!(to, "item_count {}", norrabist::item_count(s, w))?;
+    for k in 0..3 {
+        part(to, "item_at", norrabist::item_at(s, w, k))?;
+    }
+    for at in [2, FAR] {
+        part(to, "item_from", norrabist::item_from(s, at, w))?;
+    }
+    Ok(())
 }
 
 fn reads(to: &mut impl Write) -> io::Result<()> {
     let s = [1u8, 2, 3, 4, 255];
-    read(to, &s, 0, Width::One)?;
-    read(to, &s, 4, Width::One)?;
-    read(to, &s, 5, Width::One)?;
-    read(to, &s, 0, Width::Two)?;
-    read(to, &s, 3, Width::Two)?;
-    read(to, &s, 4, Width::Two)?;
-    read(to, &s, 2, Width::Three)?;
-    read(to, &s, 3, Width::Three)?;
-    read(to, &s, 0, Width::Four)?;
-    read(to, &s, 1, Width::Four)?;
-    read(to, &s, 2, Width::Four)?;
-    read(to, &s, FAR, Width::Four)
+    for (at, w) in [
+        (0, Width::One),
+        (4, Width::One),
+        (5, Width::One),
+        (0, Width::Two),
+        (3, Width::Two),
+        (4, Width::Two),
+        (2, Width::Three),
+        (3, Width::Three),
+        (0, Width::Four),
+        (1, Width::Four),
+        (2, Width::Four),
+        (FAR, Width::Four),
+    ] {
+        number(to, "parse_be", norrabist::parse_be(&s, at, w))?;
+    }
+    Ok(())
 }
 
 fn writes(to: &mut impl Write) -> io::Result<()> {
@@ -173,12 +116,10 @@ fn writes(to: &mut impl Write) -> io::Result<()> {
 
 fn views(to: &mut impl Write) -> io::Result<()> {
     let s = [1u8, 2, 3, 4, 5];
-    view(to, &s, 0, 5)?;
-    view(to, &s, 4, 1)?;
-    view(to, &s, 5, 0)?;
-    view(to, &s, 5, 1)?;
-    view(to, &s, 6, 0)?;
-    view(to, &s, FAR, FAR)
+    for (start, len) in [(0, 5), (4, 1), (5, 0), (5, 1), (6, 0), (FAR, FAR)] {
+        view(to, &s, start, len)?;
+    }
+    Ok(())
 }
 
 fn parts(to: &mut impl Write) -> io::Result<()> {
@@ -204,12 +145,10 @@ fn parts(to: &mut impl Write) -> io::Result<()> {
 
 fn blocks(to: &mut impl Write) -> io::Result<()> {
     let s = [0u8, 1, 9, 0, 0, 0];
-    block(to, &s, 0)?;
-    block(to, &s, 1)?;
-    block(to, &s, 3)?;
-    block(to, &s, 4)?;
-    block(to, &s, 5)?;
-    block(to, &s, 6)
+    for at in [0, 1, 3, 4, 5, 6] {
+        block(to, &s, at)?;
+    }
+    Ok(())
 }
 
 fn main(rt: HostRuntime) -> io::Result<()> {

@@ -8,15 +8,15 @@ mod record_rows;
 mod say;
 mod write_rows;
 
-use std::io;
+use std::io::{self, Write};
 
 fn main(rt: HostRuntime) -> io::Result<()> {
     let mut stdout = rt.stdout();
     let to = &mut stdout;
-    say::text(to, b"Z is 32 zero bytes, H is 0303 Z 00 0000 00\n")?;
-    say::text(
+    writeln!(to, "Z is 32 zero bytes, H is 0303 Z 00 0000 00")?;
+    writeln!(
         to,
-        b"refused 1 is Incomplete, 2 Complete, 3 Verify, 4 LengthValue, 5 Tag, 6 Switch, 7 TooLarge, 8 BadLength, 9 NoRoom, 11 NoSuch, 12 NotYetImplemented\n",
+        "refused 1 is Incomplete, 2 Complete, 3 Verify, 4 LengthValue, 5 Tag, 6 Switch, 7 TooLarge, 8 BadLength, 9 NoRoom, 11 NoSuch, 12 NotYetImplemented"
     )?;
     hello_rows::clients(to)?;
     hello_rows::stricts(to)?;

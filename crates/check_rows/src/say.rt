@@ -1,54 +1,55 @@
 // What the lines are made of.
-use norrabist::{OptView, Refusal};
+use norrabist::{Refusal, View};
+use std::fmt;
 use std::io::{self, Write};
 
-pub(crate) fn text(to: &mut impl Write, text: &[u8]) -> io::Result<()> {
-    to.write_all(text)
-}
+// So many bytes.
+#[derive(Clone, Copy)]
+pub(crate) struct Bytes(pub(crate) usize);
 
-pub(crate) fn number(to: &mut impl Write, n: usize) -> io::Result<()> {
-    write!(to, "{n}")
-}
-
-pub(crate) fn bytes(to: &mut impl Write, n: usize) -> io::Result<()> {
-    number(to, n)?;
-    if n == 1 {
-        text(to, b" byte")
-    } else {
-        text(to, b" bytes")
-    }
-}
-
-pub(crate) fn hex(to: &mut impl Write, name: &[u8], n: usize, digits: usize) -> io::Result<()> {
-    text(to, name)?;
-    write!(to, "{n:0digits$x}")
-}
-
-// A refusal is its number alone.
-pub(crate) fn refused(to: &mut impl Write, r: Refusal) -> io::Result<()> {
-    text(to, b"refused ")?;
-    number(to, norrabist::refusal_number(r) as usize)?;
-    text(to, b"\n")
-}
-
-pub(crate) fn opt(to: &mut impl Write, name: &[u8], v: OptView) -> io::Result<()> {
-    text(to, name)?;
-    match v {
-        OptView::Absent => text(to, b" absent"),
-        OptView::Present(p) => {
-            text(to, b" present, ")?;
-            bytes(to, p.len)
+impl fmt::Display for Bytes {
+    fn fmt<W: fmt::Write>(&self, f: &mut fmt::Formatter<W>) -> fmt::Result {
+        match self.0 {
+            1 => f.write_str("1 byte"),
+            n => write!(f, "{n} bytes"),
         }
     }
 }
 
+// Bytes in hex, one behind the other.
+#[derive(Clone, Copy)]
+pub(crate) struct Hex<'a>(pub(crate) &'a [u8]);
+
+// stays: look has the same; a crate for it alone would be no plainer
+impl fmt::Display for Hex<'_> {
+    fn fmt<W: fmt::Write>(&self, f: &mut fmt::Formatter<W>) -> fmt::Result {
+        for b in self.0 {
+            write!(f, "{b:02x}")?;
+        }
+        Ok(())
+    }
+}
+
+// Whether a part is there, and how long it is.
+#[derive(Clone, Copy)]
+pub(crate) struct Opt(pub(crate) Option<View>);
+
+impl fmt::Display for Opt {
+    fn fmt<W: fmt::Write>(&self, f: &mut fmt::Formatter<W>) -> fmt::Result {
+        match self.0 {
+            None => f.write_str("absent"),
+            Some(v) => write!(f, "present, {}", Bytes(v.len)),
+        }
+    }
+}
+
+// A refusal is its number alone.
+pub(crate) fn refused(to: &mut impl Write, r: Refusal) -> io::Result<()> {
+    writeln!(to, "refused {}", norrabist::refusal_number(r))
+}
+
 // How every line begins: the row's number, what the input is read as, the input in RULES 8's
 // notation.
-pub(crate) fn row(to: &mut impl Write, number: &[u8], what: &[u8], input: &[u8]) -> io::Result<()> {
-    text(to, number)?;
-    text(to, b" ")?;
-    text(to, what)?;
-    text(to, b" ")?;
-    text(to, input)?;
-    text(to, b": ")
+pub(crate) fn row(to: &mut impl Write, number: &str, what: &str, input: &str) -> io::Result<()> {
+    write!(to, "{number} {what} {input}: ")
 }

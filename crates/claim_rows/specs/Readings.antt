@@ -4,7 +4,7 @@
 -- 000001` is `bytes_of 4 0x03_000001`.
 use Rattle.std.specs.Prelude.{◌+◌, ◌≡◌, ◌∷◌, ◌++◌}
 use Rattle.refusal.specs.{ℕ, List, [], Option, none, some, replicate, number_of, Answer, accepted, then, number_in, values_in, Reason, Incomplete, Complete, Verify, LengthValue, Tag, Switch, TooLarge, NoSuch}
-use Rattle.wire.specs.{part_of, bytes_of, OptView, Absent, Present, View}
+use Rattle.wire.specs.{part_of, bytes_of, OptView, None, Some, View}
 use Rattle.field.specs.{sized}
 use Rattle.grammar.specs.{reading, by_version}
 use Rattle.list.specs.{items, place, bytes_handed}
@@ -76,7 +76,7 @@ span start n = record { start = start; len = n }
 
 -- what is handed out of H: all lists empty
 abbrev pub all_empty : OptView → ℕ → TlsClientHelloContents
-all_empty ext tail = record { version = 0x0303; random = span 2 32; session_id = Absent; ciphers = span 37 0; comp = span 38 0; ext = ext; tail = tail }
+all_empty ext tail = record { version = 0x0303; random = span 2 32; session_id = None; ciphers = span 37 0; comp = span 38 0; ext = ext; tail = tail }
 
 -- and of a CertificateRequest
 abbrev pub request_of : View → OptView → View → ℕ → TlsCertificateRequestContents
@@ -86,13 +86,13 @@ request_of types pairs names tail = record { cert_types = types; sig_hash_algs =
 unfoldable pub rows : List RulesRow
 rows =
     reject 1 (reading client) [] Incomplete
-    ∷ accept 2 (reading client) (H []) (all_empty Absent 38)
+    ∷ accept 2 (reading client) (H []) (all_empty None 38)
     ∷ reject 2 strict_client (H []) LengthValue
-    ∷ accept 3 (reading client) (H (bytes_of 1 0x00)) (all_empty Absent 38)
+    ∷ accept 3 (reading client) (H (bytes_of 1 0x00)) (all_empty None 38)
     ∷ reject 3 strict_client (H (bytes_of 1 0x00)) LengthValue
-    ∷ accept 4 (reading client) (H (bytes_of 2 0x0000)) (all_empty (Present (span 40 0)) 40)
+    ∷ accept 4 (reading client) (H (bytes_of 2 0x0000)) (all_empty (Some (span 40 0)) 40)
     ∷ reject 4 strict_client (H (bytes_of 2 0x0000)) LengthValue
-    ∷ accept 5 (reading client) (H (bytes_of 2 0x0001)) (all_empty Absent 38)
+    ∷ accept 5 (reading client) (H (bytes_of 2 0x0001)) (all_empty None 38)
     ∷ reject 5 strict_client (H (bytes_of 2 0x0001)) LengthValue
     ∷ reject 6 (reading client) (from0303_z (bytes_of 1 0x21)) Verify
     ∷ reject 7 (reading client) (from0303_z (bytes_of 1 0x20 ++ replicate 31 0)) Incomplete
@@ -112,10 +112,10 @@ rows =
     ∷ reject 14 (by_version server_versions) (bytes_of 1 0x03) Incomplete
     ∷ accept 15 written_back (H []) (bytes_of 4 0x01_000028 ++ H (bytes_of 2 0x0000))
     ∷ accept 16 certificates_in (bytes_of 8 0x000005_000001_aa_ff) (bytes_of 1 0xaa ∷ [])
-    ∷ accept 17 certificate_request (bytes_of 5 0x00_0002_0000) (request_of (span 1 0) Absent (span 3 2) 5)
+    ∷ accept 17 certificate_request (bytes_of 5 0x00_0002_0000) (request_of (span 1 0) None (span 3 2) 5)
     ∷ accept 17 names_in (bytes_of 5 0x00_0002_0000) ([] ∷ [])
-    ∷ accept 18 certificate_request (bytes_of 5 0x00_0000_0000) (request_of (span 1 0) (Present (span 3 0)) (span 5 0) 5)
-    ∷ accept 18 certificate_request (bytes_of 3 0x00_0000) (request_of (span 1 0) Absent (span 3 0) 3)
+    ∷ accept 18 certificate_request (bytes_of 5 0x00_0000_0000) (request_of (span 1 0) (Some (span 3 0)) (span 5 0) 5)
+    ∷ accept 18 certificate_request (bytes_of 3 0x00_0000) (request_of (span 1 0) None (span 3 0) 3)
     ∷ reject 18 certificate_request (bytes_of 2 0x00_00) Complete
     ∷ []
 
@@ -125,7 +125,7 @@ abbrev pub S : ℕ → List ℕ
 S version = bytes_of 2 version ++ (replicate 32 0 ++ bytes_of 6 0x00_002f_00_0000)
 
 abbrev pub plain_server : ℕ → OptView → ℕ → TlsServerHelloContents
-plain_server v ext tail = record { version = v; random = span 2 32; session_id = Absent; cipher = 0x002f; compression = 0x00; ext = ext; tail = tail }
+plain_server v ext tail = record { version = v; random = span 2 32; session_id = None; cipher = 0x002f; compression = 0x00; ext = ext; tail = tail }
 
 -- what is handed out of a record of a type and version 0x0303, its content of n bytes
 abbrev pub plain : ℕ → ℕ → ℕ → ℕ → TlsPlaintext
@@ -137,7 +137,7 @@ beat kind n = bytes_of 5 (0x18_0303_0000 + 3 + n) ++ (bytes_of 1 kind ++ (bytes_
 
 -- what is handed out of a ClientHello with one cipher and one method
 abbrev pub one_each_of : OptView → ℕ → TlsClientHelloContents
-one_each_of ext tail = record { version = 0x0303; random = span 2 32; session_id = Absent; ciphers = span 37 2; comp = span 40 1; ext = ext; tail = tail }
+one_each_of ext tail = record { version = 0x0303; random = span 2 32; session_id = None; ciphers = span 37 2; comp = span 40 1; ext = ext; tail = tail }
 
 -- what is handed out of `00000000 0000`
 abbrev pub empty_ticket : TlsNewSessionTicketContent
@@ -148,30 +148,30 @@ empty_ticket = record { ticket_lifetime_hint = 0; ticket = span 6 0; tail = 6 }
 unfoldable pub own_rows : List RulesRow
 own_rows =
     accept 0 (reading client) (from0303_z (bytes_of 1 0x20 ++ (replicate 32 0 ++ bytes_of 8 0x0004_002f_0035_01_00)))
-    (record { version = 0x0303; random = span 2 32; session_id = Present (span 35 32); ciphers = span 69 4; comp = span 74 1; ext = Absent; tail = 75 })
+    (record { version = 0x0303; random = span 2 32; session_id = Some (span 35 32); ciphers = span 69 4; comp = span 74 1; ext = None; tail = 75 })
     ∷ reject 0 strict_client (from0303_z (bytes_of 3 0x00_0000)) Incomplete
     ∷ reject 0 strict_client (from0303_z (bytes_of 6 0x00_0002_002f_00)) LengthValue
-    ∷ accept 0 strict_client (from0303_z (bytes_of 7 0x00_0002_002f_01_00)) (one_each_of Absent 41)
+    ∷ accept 0 strict_client (from0303_z (bytes_of 7 0x00_0002_002f_01_00)) (one_each_of None 41)
     ∷ reject 0 strict_client (from0303_z (bytes_of 8 0x00_0002_002f_01_00_00)) LengthValue
-    ∷ accept 0 strict_client (from0303_z (bytes_of 9 0x00_0002_002f_01_00_0000)) (one_each_of (Present (span 43 0)) 43)
+    ∷ accept 0 strict_client (from0303_z (bytes_of 9 0x00_0002_002f_01_00_0000)) (one_each_of (Some (span 43 0)) 43)
     ∷ reject 0 strict_client (from0303_z (bytes_of 9 0x00_0002_002f_01_00_0001)) LengthValue
     ∷ reject 0 (by_version server_versions) (S 0x02ff) Tag
-    ∷ accept 0 (by_version server_versions) (S 0x0300) (plain_server 0x0300 Absent 38)
-    ∷ accept 0 (by_version server_versions) (S 0x0301) (plain_server 0x0301 (Present (span 40 0)) 40)
-    ∷ accept 0 (by_version server_versions) (S 0x0302) (plain_server 0x0302 (Present (span 40 0)) 40)
-    ∷ accept 0 (by_version server_versions) (S 0x0303) (plain_server 0x0303 (Present (span 40 0)) 40)
+    ∷ accept 0 (by_version server_versions) (S 0x0300) (plain_server 0x0300 None 38)
+    ∷ accept 0 (by_version server_versions) (S 0x0301) (plain_server 0x0301 (Some (span 40 0)) 40)
+    ∷ accept 0 (by_version server_versions) (S 0x0302) (plain_server 0x0302 (Some (span 40 0)) 40)
+    ∷ accept 0 (by_version server_versions) (S 0x0303) (plain_server 0x0303 (Some (span 40 0)) 40)
     ∷ reject 0 (by_version server_versions) (S 0x7f12) Tag
-    ∷ accept 0 message (bytes_of 4 0x01_000026 ++ H []) (ClientHello (all_empty Absent 38))
-    ∷ accept 0 message (bytes_of 4 0x02_000028 ++ S 0x0303) (ServerHello (plain_server 0x0303 (Present (span 40 0)) 40))
+    ∷ accept 0 message (bytes_of 4 0x01_000026 ++ H []) (ClientHello (all_empty None 38))
+    ∷ accept 0 message (bytes_of 4 0x02_000028 ++ S 0x0303) (ServerHello (plain_server 0x0303 (Some (span 40 0)) 40))
     ∷ accept 0 message (bytes_of 6 0x02_000026_7f12 ++ (replicate 32 0 ++ bytes_of 4 0x1301_0000))
-    (ServerHelloV13Draft18 (record { version = 0x7f12; random = span 2 32; cipher = 0x1301; ext = Present (span 38 0); tail = 38 }))
+    (ServerHelloV13Draft18 (record { version = 0x7f12; random = span 2 32; cipher = 0x1301; ext = Some (span 38 0); tail = 38 }))
     ∷ accept 0 message (bytes_of 12 0x04_000008_01020304_0002_aabb) (NewSessionTicket (record { ticket_lifetime_hint = 0x01020304; ticket = span 6 2; tail = 8 }))
     ∷ reject 0 message (bytes_of 7 0x04_000003_010203) Verify
     ∷ accept 0 message (bytes_of 5 0x05_000001_ff) EndOfEarlyData
-    ∷ accept 0 message (bytes_of 11 0x06_000007_7f12_1301_0001_aa) (HelloRetryRequest (record { version = 0x7f12; cipher = 0x1301; ext = Present (span 6 1); tail = 7 }))
+    ∷ accept 0 message (bytes_of 11 0x06_000007_7f12_1301_0001_aa) (HelloRetryRequest (record { version = 0x7f12; cipher = 0x1301; ext = Some (span 6 1); tail = 7 }))
     ∷ accept 0 message (bytes_of 11 0x0b_000007_000004_000001_aa) (Certificate (record { cert_chain = span 3 4; tail = 7 }))
     ∷ accept 0 message (bytes_of 5 0x0c_000001_aa) (ServerKeyExchange (record { parameters = span 0 1 }))
-    ∷ accept 0 message (bytes_of 15 0x0d_00000b_01_40_0002_0403_0003_0001_aa) (CertificateRequest (request_of (span 1 1) (Present (span 4 2)) (span 8 3) 11))
+    ∷ accept 0 message (bytes_of 15 0x0d_00000b_01_40_0002_0403_0003_0001_aa) (CertificateRequest (request_of (span 1 1) (Some (span 4 2)) (span 8 3) 11))
     ∷ accept 0 message (bytes_of 4 0x0e_000000) (ServerDone (span 0 0))
     ∷ accept 0 message (bytes_of 6 0x0f_000002_aabb) (CertificateVerify (span 0 2))
     ∷ accept 0 message (bytes_of 7 0x10_000003_02_aabb) (ClientKeyExchange (Unknown (span 0 3)))

@@ -7,11 +7,10 @@ use native.Mathlib.Omega.{arith}
 use lib.ListN.{length, take, drop}
 use lib.Seq.{get_or-drop}
 use lib.Dec.{leb}
+use Rattle.std.specs.Prelude.{Some, None}
 use Rattle.wire.specs.Numbers.{Bytes, bytes_of}
-use Rattle.wire.specs.Parts.{pick, part_of, opt_part_of}
+use Rattle.wire.specs.Parts.{pick, part_of, opt_part_of, OptView}
 use Rattle.wire.specs.declared.view.View.{View}
-use Rattle.wire.specs.declared.view.OptView.{OptView}
-use Rattle.wire.specs.declared.view.OptView.TheVariants.{Absent, Present}
 use Rattle.wire.proofs.Numbers.{bytes_take}
 use Rattle.field.specs.Fields.{Field, fixed, vector}
 use Rattle.field.specs.Standing.{field_bytes}
@@ -45,8 +44,8 @@ bytes_part s v b = go (leb (v.start + v.len) (length s))
     go false = no_bytes
 
 bytes_opt : (s : List ℕ) (o : OptView) → Bytes s → Bytes (opt_part_of s o)
-bytes_opt s Absent b = no_bytes
-bytes_opt s (Present v) b = bytes_part s v b
+bytes_opt s None b = no_bytes
+bytes_opt s (Some v) b = bytes_part s v b
 
 bytes_named : (m : How) (s : List ℕ) (o : Out m) → Bytes s → Bytes (named m s o)
 bytes_named as_view s v b = bytes_part s v b

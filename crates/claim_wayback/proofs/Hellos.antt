@@ -11,13 +11,12 @@ use native.Mathlib.Nat.{zero-add}
 use borrow.Author.Tests.{le-leb}
 use lib.ListN.{length, take, drop, length-append, length-drop}
 use lib.Seq.{take_at, length-take-le}
+use Rattle.std.specs.Prelude.{Some, None}
 use Rattle.refusal.specs.Answers.{accepted}
 use Rattle.wire.specs.Numbers.{Bytes, bytes_of}
-use Rattle.wire.specs.Parts.{opt_part_of, lies_in}
+use Rattle.wire.specs.Parts.{opt_part_of, lies_in, OptView}
 use Rattle.wire.specs.Puts.{put}
 use Rattle.wire.specs.declared.view.View.{View}
-use Rattle.wire.specs.declared.view.OptView.{OptView}
-use Rattle.wire.specs.declared.view.OptView.TheVariants.{Absent, Present}
 use Rattle.wire.proofs.Parts.{room_in, room_out}
 use Rattle.wire.proofs.Numbers.{length_bytes}
 use Rattle.wire.proofs.Puts.{text_in, text_out}
@@ -56,8 +55,8 @@ view_lies s v vs tail h r = le-leb (v.start + v.len) (length s) (omega (arith, e
 seen_lies : (m : How) (s : List ℕ) (o : Out m) (vs : List View) (from tail : ℕ) → tail ≤ length s
     → InRow from (seen m o vs) tail → (lies m s o ≡ true) × ((n : ℕ) × InRow n vs tail)
 seen_lies as_view s v vs from tail h (_, r) = (view_lies s v vs tail h r, (v.start + v.len, r))
-seen_lies (as_opt empty) s Absent vs from tail h r = (refl, (from, r))
-seen_lies (as_opt empty) s (Present v) vs from tail h (_, r) = (view_lies s v vs tail h r, (v.start + v.len, r))
+seen_lies (as_opt empty) s None vs from tail h r = (refl, (from, r))
+seen_lies (as_opt empty) s (Some v) vs from tail h (_, r) = (view_lies s v vs tail h r, (v.start + v.len, r))
 seen_lies (as_number w) s n vs from tail h r = (refl, (from, r))
 
 -- so it may stand in its field
@@ -77,17 +76,17 @@ all_may_lem ((f, m) ∷ rs) s (o, os) z vs from tail h (p, ps) r =
 -- the block that was found is one of extensions, and an absent one is written as 00 00
 last_obeys : (b : Option Field) → OfHello b → (s : List ℕ) (e : OptView) (t : List ℕ) → BlockObeys b (block_of s e) t
     → Obeys extensions (opt_part_of s e)
-last_obeys b h s Absent t o = (omega arith, refl)
-last_obeys none h s (Present v) t o = absurd o
-last_obeys (some f) h s (Present v) t o = rw h at o
+last_obeys b h s None t o = (omega arith, refl)
+last_obeys none h s (Some v) t o = absurd o
+last_obeys (some f) h s (Some v) t o = rw h at o
 
 last_bytes : (b : Option Field) → OfHello b → (s : List ℕ) (e : OptView) (t : List ℕ) → BlockObeys b (block_of s e) t
     → field_bytes extensions (opt_part_of s e) ≡ block_bytes b (block_of s e) ++ added e
 unfolding bytes_of
-last_bytes none h s Absent t o = refl
-last_bytes (some f) h s Absent t o = refl
-last_bytes none h s (Present v) t o = absurd o
-last_bytes (some f) h s (Present v) t o = rw (h, append-nil)
+last_bytes none h s None t o = refl
+last_bytes (some f) h s None t o = refl
+last_bytes none h s (Some v) t o = absurd o
+last_bytes (some f) h s (Some v) t o = rw (h, append-nil)
 
 -- where bytes split, those before the rest
 before : (s xs ys : List ℕ) (n : ℕ) → n ≤ length s → s ≡ xs ++ (ys ++ drop n s) → take n s ≡ xs ++ ys

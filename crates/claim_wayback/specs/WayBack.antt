@@ -4,7 +4,7 @@
 -- `proofs/Demand3.antt`, `proofs/Contents.antt` and `proofs/WayBack.antt`.
 use Rattle.std.specs.Prelude.{◌+◌, ◌<◌, ◌≤◌, ◌≡◌, ◌∷◌, ◌++◌}
 use Rattle.refusal.specs.{ℕ, List, [], Bool, true, Option, none, some, length, take, drop, unplaced, Answer, accepted, refused, giving, NoRoom}
-use Rattle.wire.specs.{part_of, opt_part_of, lookup, Bytes, bytes_of, room, written, OptView, Absent, Present, View}
+use Rattle.wire.specs.{part_of, opt_part_of, lookup, Bytes, bytes_of, room, written, OptView, None, Some, View}
 use Rattle.field.specs.{Field, field_bytes}
 use Rattle.grammar.specs.{extensions, Pieces, Form, all_named_of, pieces, reading, by_version, if_listed, ToFill, strictly}
 use Rattle.write_rules.specs.{hello_text, head_text, message_text}
@@ -36,8 +36,8 @@ framed msgType b = bytes_of 1 msgType ++ (bytes_of 3 (length b) ++ b)
 
 -- RULES 7.6: absent extensions are written 00 00
 abbrev pub added : OptView → List ℕ
-added Absent = 0x00 ∷ 0x00 ∷ []
-added (Present v) = []
+added None = 0x00 ∷ 0x00 ∷ []
+added (Some v) = []
 
 -- the bytes of the body before its tail, and what is added
 abbrev pub back : {C : Type 0} → Form C → List ℕ → C → List ℕ

@@ -11,6 +11,7 @@ use borrow.Author.Tests.{leb-true, leb-false, le-leb, lt-leb, lt-ltb, ltb-true, 
 use borrow.Author.Tests.{eq-eqb}
 use lib.ListN.{length, length-append}
 use lib.Dec.{leb, ltb, eqb, leb-suc-suc}
+use Rattle.std.specs.Prelude.{Some, None}
 use Rattle.refusal.specs.Refusals.{OneOf, refusal, unplaced}
 use Rattle.refusal.specs.Answers.{Answer, accepted, refused, then}
 use Rattle.refusal.specs.declared.Reason.{Reason}
@@ -18,12 +19,10 @@ use Rattle.refusal.specs.declared.Reason.TheVariants.{Verify, LengthValue, TooLa
 use Rattle.refusal.specs.declared.Reason.TheVariants.{NotYetImplemented}
 use Rattle.refusal.specs.declared.Refusal.{Refusal}
 use Rattle.refusal.proofs.Told.{unplaced_reason}
-use Rattle.wire.specs.Parts.{pick, part_of, opt_part_of}
+use Rattle.wire.specs.Parts.{pick, part_of, opt_part_of, OptView}
 use Rattle.wire.specs.Numbers.{bytes_of, bytes_in, number_text}
 use Rattle.wire.specs.Puts.{room}
 use Rattle.wire.specs.declared.view.View.{View}
-use Rattle.wire.specs.declared.view.OptView.{OptView}
-use Rattle.wire.specs.declared.view.OptView.TheVariants.{Absent, Present}
 use Rattle.wire.specs.declared.number.Width.{Width}
 use Rattle.wire.specs.declared.number.Width.TheVariants.{One, Two, Three, Four}
 use Rattle.wire.proofs.Parts.{room_in, room_out}
@@ -43,7 +42,7 @@ use Rattle.grammar.specs.Forms.{Form}
 use Rattle.write_rules.specs.HelloTexts.{may_stand, may_write, hello_bytes, hello_text}
 use Rattle.write_rules.specs.MessageTexts.{head_text, message_text, view_text, sized_text}
 use Rattle.write_rules.proofs.Parts.{may_in, may_out}
-use Rattle.write_rules.proofs.Mays as mays
+use Rattle.write_rules.proofs.Mays.{asked}
 use Rattle.write_rules.proofs.Hellos.{obeyed, hello_refused, hello_message}
 use Rattle.write_rules.proofs.Messages.{Message, short_head, message_is}
 use Rattle.read_client.specs.Client.{client}
@@ -178,8 +177,8 @@ view_may f s v = go (within_bytes s v) refl
 
 opt_may : (f : Field) (s : List ℕ) (o : OptView)
     → may_stand f (as_opt false) s o ≡ (opt_within s o && allowed f (opt_len o))
-opt_may f s Absent = refl
-opt_may f s (Present v) = view_may f s v
+opt_may f s None = refl
+opt_may f s (Some v) = view_may f s v
 
 id_may : (s : List ℕ) (o : OptView) → may_stand session_id_of.0 (as_opt false) s o ≡ id_fits s o
 id_may s o = opt_may session_id_of.0 s o
@@ -207,8 +206,8 @@ view_length s v more e =
 
 opt_length : (s : List ℕ) (o : OptView) (more : Bool) → (opt_within s o && more) ≡ true
     → length (opt_part_of s o) ≡ opt_len o
-opt_length s Absent more e = refl
-opt_length s (Present v) more e = view_length s v more e
+opt_length s None more e = refl
+opt_length s (Some v) more e = view_length s v more e
 
 -- the hellos: which may be written, and how long they are
 hello_case : {C : Type 0} (k : Form C) (msgType : ℕ) (s : List ℕ) (c : C) (fits : Bool) (n : ℕ) (out : List ℕ)
@@ -226,7 +225,7 @@ client_hello_lem : (s : List ℕ) (c : TlsClientHelloContents) (out : List ℕ)
 unfolding client_write
 client_hello_lem s c out =
     hello_case client 0x01 s c _ _ out
-    ((mays.begin client s c).is
+    (asked client s c
     ∙ also (view_may random.0 s c.random)
     (also (id_may s c.session_id)
     (also (ciphers_may s c.ciphers) (also (part_may One s c.comp) (extensions_may s c.ext)))))
@@ -254,7 +253,7 @@ server_hello_lem : (s : List ℕ) (c : TlsServerHelloContents) (out : List ℕ)
 unfolding server_write
 server_hello_lem s c out =
     hello_case (server true) 0x02 s c _ _ out
-    ((mays.begin (server true) s c).is
+    (asked (server true) s c
     ∙ also (view_may random.0 s c.random) (also (id_may s c.session_id) (extensions_may s c.ext)))
     (λ m e.
     let o = obeyed (server true) s c m in
@@ -270,7 +269,7 @@ draft18_hello_lem : (s : List ℕ) (c : TlsServerHelloV13Draft18Contents) (out :
 unfolding draft18_write
 draft18_hello_lem s c out =
     hello_case draft18 0x02 s c _ _ out
-    ((mays.begin draft18 s c).is ∙ also (view_may random.0 s c.random) (extensions_may s c.ext))
+    (asked draft18 s c ∙ also (view_may random.0 s c.random) (extensions_may s c.ext))
     (λ m e.
     let o = obeyed draft18 s c m in
     let l = draft18_length s c o in (

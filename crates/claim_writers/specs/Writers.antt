@@ -5,7 +5,7 @@
 -- `proofs/Writers.antt`.
 use Rattle.std.specs.Prelude.{◌+◌, ◌%◌, ◌≡◌, ◌∷◌, ◌&&◌}
 use Rattle.refusal.specs.{ℕ, List, [], Bool, true, Option, none, some, length, leb, eqb, number_of, Answer, accepted, number_in, values_in, Reason, TooLarge, BadLength, NoRoom, NotYetImplemented, OneOf}
-use Rattle.wire.specs.{if_some, pick, bytes_in, number_text, room, View, OptView, Absent, Present, Width, One, Two, Three, Four}
+use Rattle.wire.specs.{if_some, pick, bytes_in, number_text, room, View, OptView, None, Some, Width, One, Two, Three, Four}
 use Rattle.field.specs.{vector, rule_of, field_text, RuleName, Plain, SessionId, Ciphers, Methods, Fragment}
 use Rattle.write_rules.specs.{hello_text, head_text, message_text, view_text}
 use Rattle.read_client.specs.{client, TlsClientHelloContents}
@@ -43,13 +43,13 @@ abbrev pub within_bytes : List ℕ → View → Bool
 within_bytes s v = leb (v.start + v.len) (length s)
 
 abbrev pub opt_within : List ℕ → OptView → Bool
-opt_within s Absent = true
-opt_within s (Present v) = within_bytes s v
+opt_within s None = true
+opt_within s (Some v) = within_bytes s v
 
 -- RULES 7.6: an absent part is a length of 0, and no byte behind it
 abbrev pub opt_len : OptView → ℕ
-opt_len Absent = 0
-opt_len (Present v) = v.len
+opt_len None = 0
+opt_len (Some v) = v.len
 
 -- RULES 7.2: a random of 32 bytes
 abbrev pub random_fits : List ℕ → View → Bool

@@ -6,29 +6,33 @@
 -- are what the fields of demand 3 and `splits_ticket` are shown by, and have no field.
 use Rattle.std.specs.Prelude.{◌≤◌, ◌≡◌}
 use Rattle.std.specs.Borrow.{Bor}
-use Rattle.refusal.specs.{ℕ, Bool, List, get_or, NumbersApart, accepted, OneResult, true, false}
-use Rattle.wire.specs.{if_some, part_of, part_says, Bytes, number_says, EachUndoes, write_says, View}
+use Rattle.refusal.specs.{ℕ, Bool, List, get_or, NumbersApart, accepted, OneResult, true, false, as_answer}
+use Rattle.wire.specs.{if_some, part_of, Bytes, EachUndoes, View, Number, Part}
 use Rattle.field.specs.{Field, fixed, sized, least}
 use Rattle.field.specs.Closing.{EveryClosing, EveryLength}
 use Rattle.grammar.specs.{client_to_fill, BySplit, ByVersion, ByExactSplit, ByClosedSplit}
 use Rattle.list.specs.{NoneMore, ByItems}
-use Rattle.read_start.specs.Start.{start_says}
-use Rattle.read_client.specs.{client, client_says, TellsExactness, TlsClientHelloContents}
-use Rattle.read_server.specs.{server, server_versions, server_says, draft18, draft18_says, TlsServerHelloContents, TlsServerHelloV13Draft18Contents}
-use Rattle.read_certs.specs.{certificate, certificate_says, request, request_says, status, status_says, OfRequest}
+use Rattle.read_start.specs.declared.Start.{Start}
+use Rattle.read_client.specs.{client, TellsExactness, TlsClientHelloContents}
+use Rattle.read_server.specs.{server, server_versions, draft18, TlsServerHelloContents, TlsServerHelloV13Draft18Contents}
+use Rattle.read_certs.specs.{certificate, request, status, OfRequest}
+use Rattle.read_certs.specs.declared.{certificate.TlsCertificateContents.TlsCertificateContents, request.TlsCertificateRequestContents.TlsCertificateRequestContents, status.TlsCertificateStatusContents.TlsCertificateStatusContents}
 use Rattle.cert_reader.specs.Chain.{SameItems}
-use Rattle.read_others.specs.Body.{retry, retry_says, ticket_form, ticket_says, next_protocol, next_protocol_says, OfTicket}
-use Rattle.message.specs.{message_says, TlsMessageHandshake, kind_number, type_of, body_written}
+use Rattle.read_others.specs.Body.{retry, ticket_form, next_protocol, OfTicket}
+use Rattle.read_others.specs.declared.{next_protocol.TlsNextProtocolContent.TlsNextProtocolContent, retry.TlsHelloRetryRequestContents.TlsHelloRetryRequestContents, ticket.TlsNewSessionTicketContent.TlsNewSessionTicketContent}
+use Rattle.message.specs.{TlsMessageHandshake, kind_number, type_of, body_written}
 use Rattle.write_message.specs.Written.{handshake_text}
 use Rattle.open_hellos.specs.HelloMessages.{AsMessage}
-use Rattle.envelope.specs.{head_says, opened}
+use Rattle.envelope.specs.{opened, TlsMessageHead}
+use Rattle.content.specs.declared.{TlsMessage.TlsMessage, TlsMessageAlert.TlsMessageAlert, TlsMessageHeartbeat.TlsMessageHeartbeat}
 use Rattle.record_walk.specs.Walking.{Walking}
-use Rattle.content.specs.{content_says, alert_says, heartbeat_says}
-use Rattle.content_walk.specs.{found_says, past_says}
 use Rattle.content_walk.specs.ContentWalking.{ContentWalking}
-use Rattle.record.specs.{raw, header_says, raw_says, encrypted_says}
-use Rattle.record_open.specs.{plaintext_says, opened_says}
-use Rattle.record_many.specs.{many_says, ManyRecords}
+use Rattle.content_walk.specs.declared.TlsFound.{TlsFound}
+use Rattle.record.specs.{raw}
+use Rattle.record.specs.declared.{TlsRecordHeader.TlsRecordHeader, TlsRawRecord.TlsRawRecord, TlsEncrypted.TlsEncrypted}
+use Rattle.record_open.specs.declared.{TlsPlaintext.TlsPlaintext, TlsPlaintextOpened.TlsPlaintextOpened}
+use Rattle.record_many.specs.{ManyRecords}
+use Rattle.list.specs.declared.steps.Counted.{Counted as TlsRecords}
 use Rattle.record_joined.specs.Joined.{view_in_of, NoRecordMore}
 use Rattle.norrabist_c.specs.HellosBack.{HellosBack}
 use Rattle.norrabist_c.specs.BodiesBack.{BodiesBack, ListsBack}
@@ -49,32 +53,32 @@ pub record Claims : Type 0 where
   -- the table of refusals: no two share a number, and none has 0
   pub table : NumbersApart
   -- equal numbers and equal values are one result: every answer that is an enum
-  pub one_part : OneResult part_says
-  pub one_number_of : OneResult number_says
-  pub one_write : OneResult write_says
-  pub one_start : OneResult start_says
-  pub one_client : OneResult client_says
-  pub one_server : OneResult server_says
-  pub one_draft18 : OneResult draft18_says
-  pub one_certificate : OneResult certificate_says
-  pub one_request : OneResult request_says
-  pub one_status : OneResult status_says
-  pub one_retry : OneResult retry_says
-  pub one_ticket : OneResult ticket_says
-  pub one_next_protocol : OneResult next_protocol_says
-  pub one_message : OneResult message_says
-  pub one_head : OneResult head_says
-  pub one_header : OneResult header_says
-  pub one_raw : OneResult raw_says
-  pub one_encrypted : OneResult encrypted_says
-  pub one_plaintext : OneResult plaintext_says
-  pub one_opened : OneResult opened_says
-  pub one_content : OneResult content_says
-  pub one_alert : OneResult alert_says
-  pub one_heartbeat : OneResult heartbeat_says
-  pub one_found_of : OneResult found_says
-  pub one_past : OneResult past_says
-  pub one_many : OneResult many_says
+  pub one_part : OneResult (as_answer {A = Part})
+  pub one_number_of : OneResult (as_answer {A = Number})
+  pub one_write : OneResult (as_answer {A = ℕ})
+  pub one_start : OneResult (as_answer {A = Start})
+  pub one_client : OneResult (as_answer {A = TlsClientHelloContents})
+  pub one_server : OneResult (as_answer {A = TlsServerHelloContents})
+  pub one_draft18 : OneResult (as_answer {A = TlsServerHelloV13Draft18Contents})
+  pub one_certificate : OneResult (as_answer {A = TlsCertificateContents})
+  pub one_request : OneResult (as_answer {A = TlsCertificateRequestContents})
+  pub one_status : OneResult (as_answer {A = TlsCertificateStatusContents})
+  pub one_retry : OneResult (as_answer {A = TlsHelloRetryRequestContents})
+  pub one_ticket : OneResult (as_answer {A = TlsNewSessionTicketContent})
+  pub one_next_protocol : OneResult (as_answer {A = TlsNextProtocolContent})
+  pub one_message : OneResult (as_answer {A = TlsMessageHandshake})
+  pub one_head : OneResult (as_answer {A = TlsMessageHead})
+  pub one_header : OneResult (as_answer {A = TlsRecordHeader})
+  pub one_raw : OneResult (as_answer {A = TlsRawRecord})
+  pub one_encrypted : OneResult (as_answer {A = TlsEncrypted})
+  pub one_plaintext : OneResult (as_answer {A = TlsPlaintext})
+  pub one_opened : OneResult (as_answer {A = TlsPlaintextOpened})
+  pub one_content : OneResult (as_answer {A = TlsMessage})
+  pub one_alert : OneResult (as_answer {A = TlsMessageAlert})
+  pub one_heartbeat : OneResult (as_answer {A = TlsMessageHeartbeat})
+  pub one_found_of : OneResult (as_answer {A = TlsFound})
+  pub one_past : OneResult (as_answer {A = ℕ})
+  pub one_many : OneResult (as_answer {A = TlsRecords})
   -- numbers and their bytes, of every width
   pub numbers : (w : ℕ) → EachUndoes w
   -- demand 3, its reading half, of the three hellos: by their grammars, a ServerHello by its

@@ -1,21 +1,22 @@
 -- What is claimed of extensions beyond the contracts of single functions: one field for each
 -- theorem. RULES 11 cites them. `claims::extension_claims` promises them all, so that none can go
 -- missing.
-use Rattle.refusal.specs.{OneResult}
-use Rattle.list.specs.Tagged.{tagged_says, EveryTagged}
+use Rattle.refusal.specs.{ℕ, OneResult, as_answer}
+use Rattle.list.specs.Tagged.{EveryTagged}
+use Rattle.list.specs.declared.tagged.Tagged.{Tagged}
 use Rattle.read_ext.specs.Kinds.{EveryKind}
 use Rattle.read_ext.specs.Extensions.{OneBlock}
 use Rattle.read_ext.specs.Splits.{EveryBlock}
-use Rattle.write_ext.specs.ExtTexts.{length_says, row_says}
+use Rattle.write_ext.specs.declared.rows.Row.{Row}
 use Rattle.write_ext.specs.ListsBack.{EveryList, EveryRead, EveryRows, EveryValue, AtEdge}
 use Rattle.norrabist_c.specs.Extensions.{EveryExtensionBack}
 use Rattle.claim_ext.specs.ExtCases.{BlockCases, WriteCases}
 use Rattle.claim_ext.specs.ExtRows.{SmallBlocks}
 
 pub record ExtensionClaims : Type 0 where
-  pub one_tagged : OneResult tagged_says
-  pub one_length : OneResult length_says
-  pub one_row : OneResult row_says
+  pub one_tagged : OneResult (as_answer {A = Tagged})
+  pub one_length : OneResult (as_answer {A = ℕ})
+  pub one_row : OneResult (as_answer {A = Row})
   pub one_block : OneBlock
   -- extensions: items with a tag, of every width and whatever data they may have; the law of
   -- lengths over every kind; the split of a block. Written: a list by type and content, with its

@@ -5,7 +5,7 @@ use Rattle.refusal.specs.{ℕ, List, Bool, length, eqb, leb, refusal, Answer, ac
 use Rattle.registry.specs.Limits.{padding_least}
 use Rattle.wire.specs.{pick, part_of, number_at, Number}
 use Rattle.field.specs.{fixed, step}
-use Rattle.content.specs.declared.{AlertAnswer.AlertAnswer, HeartbeatAnswer.HeartbeatAnswer, TlsMessage.TlsMessage, TlsMessageAlert.TlsMessageAlert, TlsMessageAnswer.TlsMessageAnswer, TlsMessageHeartbeat.TlsMessageHeartbeat}
+use Rattle.content.specs.declared.{TlsMessage.TlsMessage, TlsMessageAlert.TlsMessageAlert, TlsMessageHeartbeat.TlsMessageHeartbeat}
 use Rattle.content.specs.declared.TlsMessage.TheVariants.{ChangeCipherSpec, Alert, ApplicationData, Heartbeat}
 
 -- the levels of an alert, and the types of a heartbeat
@@ -57,15 +57,3 @@ application_data s = accepted (ApplicationData (record { blob = record { start =
 
 unfoldable pub heartbeat_of : ℕ → List ℕ → Answer TlsMessage
 heartbeat_of n s = giving Heartbeat (heartbeat_in n s)
-
-abbrev pub content_says : TlsMessageAnswer → Answer TlsMessage
-content_says (TlsMessageAnswer.Refused r) = refused r
-content_says (TlsMessageAnswer.Got m) = accepted m
-
-abbrev pub alert_says : AlertAnswer → Answer TlsMessageAlert
-alert_says (AlertAnswer.Refused r) = refused r
-alert_says (AlertAnswer.Got a) = accepted a
-
-abbrev pub heartbeat_says : HeartbeatAnswer → Answer TlsMessageHeartbeat
-heartbeat_says (HeartbeatAnswer.Refused r) = refused r
-heartbeat_says (HeartbeatAnswer.Got h) = accepted h

@@ -6,7 +6,7 @@ use mathlib.Core.List.{List}
 use mathlib.Core.Logic.{◌⊎◌, inl, inr}
 use native.Mathlib.Omega.{arith}
 use mathlib.Core.Option.{none, some}
-use borrow.Author.Tests.{eqb-true, ne_eqb}
+use borrow.Author.Tests.{eqb-true}
 use lib.Dec.{eqb}
 use lib.ListN.{length}
 use Rattle.refusal.specs.Answers.{Answer, accepted, refused, giving}
@@ -86,12 +86,6 @@ found_17 s at = refl
 pub found_18 : (s : List ℕ) (at : ℕ) → found_at 0x18 s at ≡ heartbeat_found s
 unfolding found_at
 found_18 s at = refl
-
--- and every other: Switch
-pub not_listed : (t : ℕ) (s : List ℕ) (at : ℕ) → (t ≡ 0x14 → ⊥) → (t ≡ 0x15 → ⊥) → (t ≡ 0x16 → ⊥) → (t ≡ 0x17 → ⊥)
-    → (t ≡ 0x18 → ⊥) → found_at t s at ≡ refused (refusal Switch 0 0)
-unfolding found_at
-not_listed t s at a b c d e = rw (ne_eqb t 0x14 a, ne_eqb t 0x15 b, ne_eqb t 0x16 c, ne_eqb t 0x17 d, ne_eqb t 0x18 e)
 
 -- what takes a row of the table
 row_of : (a b c d e : Bool) (x₁ x₂ x₃ x₄ x₅ : Answer TlsFound) (r : Refusal) {x : TlsFound}

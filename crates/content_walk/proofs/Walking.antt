@@ -97,21 +97,9 @@ moved_on : (s : List ℕ) (w : TlsRecordWalk) {x : TlsFound} → met_by s w ≡ 
 unfolding moved
 moved_on s w e = rw e
 
-pub moved_not : (s : List ℕ) (w : TlsRecordWalk) {r : Refusal} → met_by s w ≡ refused r → moved s w ≡ w
+moved_not : (s : List ℕ) (w : TlsRecordWalk) {r : Refusal} → met_by s w ≡ refused r → moved s w ≡ w
 unfolding moved
 moved_not s w e = rw e
-
-pub next_not : (s : List ℕ) (w : TlsRecordWalk) {r : Refusal} → met_by s w ≡ refused r → next_message s w ≡ refused r
-unfolding next_message
-next_not s w e = rw e
-
--- what a walk meets
-pub met_ended : (s : List ℕ) (w : TlsRecordWalk) → w.ended ≡ true → met_by s w ≡ refused (refusal NoSuch 0 0)
-met_ended s w y = rw y
-
-pub met_refused : (s : List ℕ) (w : TlsRecordWalk) {r : Refusal} → w.ended ≡ false
-    → found_at w.record_type s w.next ≡ refused r → met_by s w ≡ refused (refusal NoSuch 0 0)
-met_refused s w f e = rw (f, e)
 
 -- and where it has moved on
 after_on : (s : List ℕ) (w : TlsRecordWalk) {x : TlsFound} → met_by s w ≡ accepted x

@@ -9,7 +9,7 @@ use Rattle.wire.specs.{pick, lookup, if_some}
 use Rattle.list.specs.{go_on_of, items_from, or_no_such, left_over_of}
 use Rattle.envelope.specs.{met_at}
 use Rattle.content.specs.{TlsMessage, Handshake, ChangeCipherSpec, Alert, Heartbeat, cipher_spec_at, alert_at, application_data, heartbeat}
-use Rattle.content_walk.specs.declared.{FoundAnswer.FoundAnswer, PastAnswer.PastAnswer, TlsFound.TlsFound, TlsRecordWalk.TlsRecordWalk}
+use Rattle.content_walk.specs.declared.{TlsFound.TlsFound, TlsRecordWalk.TlsRecordWalk}
 
 -- the messages that begin at a place, with the bytes that their views are of
 unfoldable pub cipher_spec_found : List ℕ → ℕ → Answer TlsFound
@@ -87,11 +87,3 @@ moved s w = on_to w (met_by s w)
 unfoldable pub walk_after : ℕ → ℕ → List ℕ → TlsRecordWalk
 walk_after zero t s = fresh_walk t
 walk_after (suc k) t s = moved s (walk_after k t s)
-
-abbrev pub found_says : FoundAnswer → Answer TlsFound
-found_says (FoundAnswer.Refused r) = refused r
-found_says (FoundAnswer.Got x) = accepted x
-
-abbrev pub past_says : PastAnswer → Answer ℕ
-past_says (PastAnswer.Refused r) = refused r
-past_says (PastAnswer.Got n) = accepted n

@@ -1,4 +1,4 @@
 pub mod ContentWalks
 pub mod ContentWalking
-pub use ContentWalks.{found_at, past_at, is_single, messages_of, dropped_of, found_says, past_says}
+pub use ContentWalks.{found_at, past_at, is_single, messages_of, dropped_of}
 pub use declared.{TlsFound.TlsFound, TlsRecordWalk.TlsRecordWalk}

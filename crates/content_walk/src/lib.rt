@@ -1,20 +1,17 @@
 // The messages of a record's content, by the type of the record: the one at a place, the walk over
 // them, and how many there are.
-#![tactic(auto)]
+#![tactic(auto, using(envelope::proofs::Heads::met_no_head, envelope::proofs::Heads::met_no_body, envelope::proofs::Heads::met_got, crate::proofs::Found::alert_is), unfolding(content::specs::Contents::application_data, list::specs::Stopping::end_of, record_walk::specs::Walks::met_head, crate::specs::ContentWalks::alert_found, crate::specs::ContentWalks::application_found, crate::specs::ContentWalks::cipher_spec_found, crate::specs::ContentWalks::found_at, crate::specs::ContentWalks::handshake_found, crate::specs::ContentWalks::heartbeat_found, crate::specs::ContentWalks::moved, crate::specs::ContentWalks::next_message, crate::specs::ContentWalks::past_at))]
 
 ghost use Rattle.std.specs.Prelude.{◌≡◌, length};
-ghost use Rattle.content.specs.Contents.{content_says};
 ghost use Rattle.list.specs.Stopping.{end_of};
-ghost use Rattle.refusal.specs.Answers.{giving, refused};
+ghost use Rattle.refusal.specs.Answers.{as_answer};
 ghost use Rattle.refusal.specs.Refusals.{refusal};
 ghost use Rattle.refusal.specs.declared.Reason.TheVariants.{NoSuch};
-ghost use Rattle.content_walk.specs.ContentWalks.{alert_found, application_found, cipher_spec_found, found_at, found_says, fresh_walk, handshake_found, heartbeat_found, is_single, messages_behind, messages_of, moved, next_message, past_at, past_says};
+ghost use Rattle.content_walk.specs.ContentWalks.{alert_found, application_found, cipher_spec_found, found_at, fresh_walk, handshake_found, heartbeat_found, is_single, messages_behind, messages_of, moved, next_message, past_at};
 
-use content::{AlertAnswer, HeartbeatAnswer, TlsMessage, TlsMessageAnswer};
-use envelope::HeadAnswer;
-use message::handshake::MessageAnswer;
+use content::TlsMessage;
+pub use list::steps::Counted;
 use refusal::{Reason, Refusal};
-use wire::number::NumberAnswer;
 use wire::view::View;
 
 // A message that was found: the bytes that its views are of, the place past it, and the message.
@@ -25,119 +22,81 @@ pub struct TlsFound {
     pub message: TlsMessage,
 }
 
-// Holds a message that was found, or the refusal.
-#[derive(Clone, Copy)]
-pub enum FoundAnswer {
-    Refused(Refusal),
-    Got(TlsFound),
-}
-
-// Holds the place past a message, or the refusal.
-#[derive(Clone, Copy)]
-pub enum PastAnswer {
-    Refused(Refusal),
-    Got(usize),
-}
-
 // The ChangeCipherSpec that begins at `at`.
-fn cipher_spec_found(s: &[u8], at: usize) -> FoundAnswer
-    ensures { found_says result ≡ cipher_spec_found s.now at }
+// stays: type and bytes are two parameters, as `norrabist_count_contents` has them of C
+fn cipher_spec_found(s: &[u8], at: usize) -> Result<TlsFound, Refusal>
+    ensures { as_answer result ≡ cipher_spec_found s.now at }
 {
-    match content::change_cipher_spec_at(s, at) {
-        NumberAnswer::Refused(r) => FoundAnswer::Refused(r),
-        NumberAnswer::Got(n) => {
-            let body = View { start: at, len: 1 };
-            FoundAnswer::Got(TlsFound {
-                body,
-                next: n.next,
-                message: TlsMessage::ChangeCipherSpec,
-            })
-        }
-    }
+    let n = content::change_cipher_spec_at(s, at)?;
+    Ok(TlsFound {
+        body: View { start: at, len: 1 },
+        next: n.next,
+        message: TlsMessage::ChangeCipherSpec,
+    })
 }
 
 // The alert that begins at `at`.
-fn alert_found(s: &[u8], at: usize) -> FoundAnswer
-    ensures { found_says result ≡ alert_found s.now at }
+fn alert_found(s: &[u8], at: usize) -> Result<TlsFound, Refusal>
+    ensures { as_answer result ≡ alert_found s.now at }
 {
-    match content::alert_at(s, at) {
-        AlertAnswer::Refused(r) => FoundAnswer::Refused(r),
-        AlertAnswer::Got(a) => {
-            let body = View { start: at, len: 2 };
-            FoundAnswer::Got(TlsFound {
-                body,
-                next: at + 2,
-                message: TlsMessage::Alert(a),
-            })
-        }
-    }
+    let a = content::alert_at(s, at)?;
+    Ok(TlsFound {
+        body: View { start: at, len: 2 },
+        next: at + 2,
+        message: TlsMessage::Alert(a),
+    })
 }
 
 // The handshake message that begins at `at`.
-fn handshake_found(s: &[u8], at: usize) -> FoundAnswer
-    ensures { found_says result ≡ handshake_found s.now at }
+fn handshake_found(s: &[u8], at: usize) -> Result<TlsFound, Refusal>
+    ensures { as_answer result ≡ handshake_found s.now at }
 {
-    let head = match envelope::parse_tls_message_head(s, at) {
-        HeadAnswer::Refused(r) => {
-            return FoundAnswer::Refused(r);
-        }
-        HeadAnswer::Got(h) => h,
-    };
-    let body = head.body;
-    match envelope::parse_tls_handshake_body(head.msg_type, wire::view::part_of(s, body)) {
-        MessageAnswer::Refused(r) => FoundAnswer::Refused(refusal::inside(r, body.start)),
-        MessageAnswer::Got(m) => FoundAnswer::Got(TlsFound {
-            body,
-            next: head.next,
-            message: TlsMessage::Handshake(m),
-        }),
-    }
+    let head = envelope::parse_tls_message_head(s, at)?;
+    let body = wire::view::part_of(s, head.body);
+    let read = envelope::parse_tls_handshake_body(head.msg_type, body);
+    let m = read.map_err(|r| refusal::inside(r, head.body.start))?;
+    Ok(TlsFound {
+        body: head.body,
+        next: head.next,
+        message: TlsMessage::Handshake(m),
+    })
 }
 
 // All of the content as application data.
-fn application_found(s: &[u8]) -> FoundAnswer
-    ensures { found_says result ≡ application_found s.now }
+fn application_found(s: &[u8]) -> Result<TlsFound, Refusal>
+    ensures { as_answer result ≡ application_found s.now }
 {
-    match content::parse_tls_message_applicationdata(s) {
-        TlsMessageAnswer::Refused(r) => FoundAnswer::Refused(r),
-        TlsMessageAnswer::Got(message) => {
-            let body = View {
-                start: 0,
-                len: s.len(),
-            };
-            FoundAnswer::Got(TlsFound {
-                body,
-                next: s.len(),
-                message,
-            })
-        }
-    }
+    let message = content::parse_tls_message_applicationdata(s)?;
+    Ok(TlsFound {
+        body: View {
+            start: 0,
+            len: s.len(),
+        },
+        next: s.len(),
+        message,
+    })
 }
 
 // All of the content as a heartbeat.
-fn heartbeat_found(s: &[u8]) -> FoundAnswer
-    ensures { found_says result ≡ heartbeat_found s.now }
+fn heartbeat_found(s: &[u8]) -> Result<TlsFound, Refusal>
+    ensures { as_answer result ≡ heartbeat_found s.now }
 {
-    match content::read_heartbeat(s) {
-        HeartbeatAnswer::Refused(r) => FoundAnswer::Refused(r),
-        HeartbeatAnswer::Got(h) => {
-            let body = View {
-                start: 0,
-                len: s.len(),
-            };
-            FoundAnswer::Got(TlsFound {
-                body,
-                next: s.len(),
-                message: TlsMessage::Heartbeat(h),
-            })
-        }
-    }
+    let h = content::read_heartbeat(s)?;
+    Ok(TlsFound {
+        body: View {
+            start: 0,
+            len: s.len(),
+        },
+        next: s.len(),
+        message: TlsMessage::Heartbeat(h),
+    })
 }
 
 // The message that begins at `at` in the content of a record of that type. One that takes the whole
 // content is found at any place; a type that is not listed is Switch.
-pub fn message_at(record_type: u8, s: &[u8], at: usize) -> FoundAnswer
-    ensures { found_says result ≡ found_at record_type s.now at }
+// stays: a `match` by the type is plainer than functions in a table, and is compiled in place.
+pub fn message_at(record_type: u8, s: &[u8], at: usize) -> Result<TlsFound, Refusal>
+    ensures { as_answer result ≡ found_at record_type s.now at }
 {
     match record_type {
         registry::record::CHANGE_CIPHER_SPEC => cipher_spec_found(s, at),
@@ -145,7 +104,7 @@ pub fn message_at(record_type: u8, s: &[u8], at: usize) -> FoundAnswer
         registry::record::HANDSHAKE => handshake_found(s, at),
         registry::record::APPLICATION_DATA => application_found(s),
         registry::record::HEARTBEAT => heartbeat_found(s),
-        _ => FoundAnswer::Refused(refusal::refuse(Reason::Switch, 0, 0)),
+        _ => Err(refusal::refuse(Reason::Switch, 0, 0)),
     }
 }
 
@@ -153,14 +112,12 @@ pub fn message_at(record_type: u8, s: &[u8], at: usize) -> FoundAnswer
 pub fn is_single(record_type: u8) -> bool
     ensures { result ≡ is_single record_type }
 {
-    if record_type == registry::record::APPLICATION_DATA {
-        return true;
-    }
-    record_type == registry::record::HEARTBEAT
+    record_type == registry::record::APPLICATION_DATA || record_type == registry::record::HEARTBEAT
 }
 
 // Where the walk stands: the body of the message handed out last, empty before the first; where the
 // next message begins; and whether a message was handed out that is the whole content.
+// stays: a value with a flag and no iterator, since `ContentWalking` speaks of walks by fields.
 #[derive(Clone, Copy)]
 pub struct TlsRecordWalk {
     pub record_type: u8,
@@ -170,19 +127,11 @@ pub struct TlsRecordWalk {
 }
 
 // The message, and the walk moved on; past the last message NoSuch, and the walk as it was.
+// stays: the answers of the three walks are public types, whose fields the theorems name
 #[derive(Clone, Copy)]
 pub struct Walked {
-    pub message: TlsMessageAnswer,
+    pub message: Result<TlsMessage, Refusal>,
     pub walk: TlsRecordWalk,
-}
-
-// A walk that hands out no message.
-fn stopped(walk: TlsRecordWalk) -> Walked
-    ensures walk_value { result.walk ≡ walk }
-    ensures message_value { content_says result.message ≡ refused (refusal NoSuch 0 0) }
-{
-    let message = TlsMessageAnswer::Refused(refusal::refuse(Reason::NoSuch, 0, 0));
-    Walked { message, walk }
 }
 
 impl TlsRecordWalk {
@@ -190,10 +139,9 @@ impl TlsRecordWalk {
     pub fn new(record_type: u8) -> Self
         ensures { result ≡ fresh_walk record_type }
     {
-        let body = View { start: 0, len: 0 };
         TlsRecordWalk {
             record_type,
-            body,
+            body: View { start: 0, len: 0 },
             next: 0,
             ended: false,
         }
@@ -202,86 +150,49 @@ impl TlsRecordWalk {
     // Hands out the next message of the content and the walk moved on; the message's views are of
     // its body, `part_of(s, walk.body)` of that walk.
     pub fn next(self, s: &[u8]) -> Walked
-        ensures message_value { content_says result.message ≡ next_message s.now self }
+        ensures message_value { as_answer result.message ≡ next_message s.now self }
         ensures walk_value { result.walk ≡ moved s.now self }
     {
-        if self.ended {
-            return stopped(self);
-        }
-        match message_at(self.record_type, s, self.next) {
-            FoundAnswer::Refused(_) => stopped(self),
-            FoundAnswer::Got(x) => {
-                let body = x.body;
-                let found = x.message;
-                let message = TlsMessageAnswer::Got(found);
-                let walk = TlsRecordWalk {
+        if !self.ended
+            && let Ok(x) = message_at(self.record_type, s, self.next)
+        {
+            return Walked {
+                message: Ok(x.message),
+                walk: TlsRecordWalk {
                     record_type: self.record_type,
-                    body,
+                    body: x.body,
                     next: x.next,
                     ended: is_single(self.record_type),
-                };
-                Walked { message, walk }
-            }
+                },
+            };
         }
-    }
-}
-
-fn past_cipher_spec(s: &[u8], at: usize) -> PastAnswer
-    ensures { past_says result ≡ giving (λ x. x.next) (cipher_spec_found s.now at) }
-{
-    match content::change_cipher_spec_at(s, at) {
-        NumberAnswer::Refused(r) => PastAnswer::Refused(r),
-        NumberAnswer::Got(n) => PastAnswer::Got(n.next),
-    }
-}
-
-fn past_alert(s: &[u8], at: usize) -> PastAnswer
-    ensures { past_says result ≡ giving (λ x. x.next) (alert_found s.now at) }
-{
-    match content::alert_at(s, at) {
-        AlertAnswer::Refused(r) => PastAnswer::Refused(r),
-        AlertAnswer::Got(_) => PastAnswer::Got(at + 2),
-    }
-}
-
-fn past_handshake(s: &[u8], at: usize) -> PastAnswer
-    ensures { past_says result ≡ giving (λ x. x.next) (handshake_found s.now at) }
-{
-    match record_walk::meet_tls_message(s, at) {
-        HeadAnswer::Refused(r) => PastAnswer::Refused(r),
-        HeadAnswer::Got(h) => PastAnswer::Got(h.next),
-    }
-}
-
-fn past_heartbeat(s: &[u8]) -> PastAnswer
-    ensures { past_says result ≡ giving (λ x. x.next) (heartbeat_found s.now) }
-{
-    match content::read_heartbeat(s) {
-        HeartbeatAnswer::Refused(r) => PastAnswer::Refused(r),
-        HeartbeatAnswer::Got(_) => PastAnswer::Got(s.len()),
+        Walked {
+            message: Err(refusal::refuse(Reason::NoSuch, 0, 0)),
+            walk: self,
+        }
     }
 }
 
 // Where the message ends that begins at `at`, where it can be opened. The message itself is not
 // handed out.
-pub fn past_message(record_type: u8, s: &[u8], at: usize) -> PastAnswer
-    ensures { past_says result ≡ past_at record_type s.now at }
+pub fn past_message(record_type: u8, s: &[u8], at: usize) -> Result<usize, Refusal>
+    ensures { as_answer result ≡ past_at record_type s.now at }
 {
+    // stays: `message_at` makes each message, which a walk that asks for ends is spared.
     match record_type {
-        registry::record::CHANGE_CIPHER_SPEC => past_cipher_spec(s, at),
-        registry::record::ALERT => past_alert(s, at),
-        registry::record::HANDSHAKE => past_handshake(s, at),
-        registry::record::APPLICATION_DATA => PastAnswer::Got(s.len()),
-        registry::record::HEARTBEAT => past_heartbeat(s),
-        _ => PastAnswer::Refused(refusal::refuse(Reason::Switch, 0, 0)),
+        registry::record::CHANGE_CIPHER_SPEC => Ok(content::change_cipher_spec_at(s, at)?.next),
+        registry::record::ALERT => {
+            content::alert_at(s, at)?;
+            Ok(at + 2)
+        }
+        registry::record::HANDSHAKE => Ok(record_walk::meet_tls_message(s, at)?.next),
+        registry::record::APPLICATION_DATA => Ok(s.len()),
+        registry::record::HEARTBEAT => {
+            content::read_heartbeat(s)?;
+            Ok(s.len())
+        }
+        _ => Err(refusal::refuse(Reason::Switch, 0, 0)),
     }
-}
-
-// How many messages there are, and where the last one ends.
-#[derive(Clone, Copy)]
-pub struct Counted {
-    pub count: usize,
-    pub end: usize,
 }
 
 // Counts the messages behind another that ends at `from`, up to the first that is refused: none
@@ -290,22 +201,13 @@ pub fn count_behind(record_type: u8, s: &[u8], from: usize) -> Counted
     ensures count_value { result.count ≡ length (messages_behind record_type s.now from) }
     ensures end_value { result.end ≡ end_of (λ x. x.next) (messages_behind record_type s.now from) from }
 {
-    let mut count: usize = 0;
-    let mut end: usize = from;
     if is_single(record_type) {
-        return Counted { count, end };
+        return Counted {
+            count: 0,
+            end: from,
+        };
     }
-    loop {
-        match past_message(record_type, s, end) {
-            PastAnswer::Refused(_) => {
-                return Counted { count, end };
-            }
-            PastAnswer::Got(next) => {
-                end = next;
-                count += 1;
-            }
-        }
-    }
+    list::steps::count(|at| past_message(record_type, s, at), from)
 }
 
 // Counts the messages of a record's content by the record's type.
@@ -313,14 +215,12 @@ pub fn count_contents(record_type: u8, s: &[u8]) -> Counted
     ensures count_value { result.count ≡ length (messages_of record_type s.now) }
     ensures end_value { result.end ≡ end_of (λ x. x.next) (messages_of record_type s.now) 0 }
 {
-    match past_message(record_type, s, 0) {
-        PastAnswer::Refused(_) => Counted { count: 0, end: 0 },
-        PastAnswer::Got(next) => {
-            let others = count_behind(record_type, s, next);
-            Counted {
-                count: 1 + others.count,
-                end: others.end,
-            }
-        }
+    let Ok(next) = past_message(record_type, s, 0) else {
+        return Counted { count: 0, end: 0 };
+    };
+    let others = count_behind(record_type, s, next);
+    Counted {
+        count: 1 + others.count,
+        end: others.end,
     }
 }

@@ -12,15 +12,11 @@ use Rattle.read_others.specs.Body.{retry, session_ticket, next_protocol}
 use Rattle.message.specs.{TlsMessageHandshake, HelloRequest, ClientHello, NewSessionTicket, EndOfEarlyData, HelloRetryRequest, Certificate, ServerKeyExchange, CertificateRequest, ServerDone, CertificateVerify, ClientKeyExchange, Finished, CertificateStatus, NextProtocol, KeyUpdate, Unknown}
 use Rattle.open_hellos.specs.HelloMessages.{server_message}
 use Rattle.open_whole.specs.Whole.{whole_body}
-use Rattle.envelope.specs.declared.{HeadAnswer.HeadAnswer, TlsMessageHead.TlsMessageHead}
+use Rattle.envelope.specs.declared.{TlsMessageHead.TlsMessageHead}
 
 -- RULES 5.1: the head of the message that begins at a place
 unfoldable pub head_at : List ℕ → ℕ → Answer TlsMessageHead
 head_at s at = then (number_at 1 s at) (λ t. giving (λ b. record { msg_type = t.value; body = b.view; next = b.next }) (step (sized 3) s t.next))
-
-abbrev pub head_says : HeadAnswer → Answer TlsMessageHead
-head_says (HeadAnswer.Refused r) = refused r
-head_says (HeadAnswer.Got h) = accepted h
 
 -- RULES 5.4: what a body is opened as by each type that is listed, n its length where that is
 -- handed over

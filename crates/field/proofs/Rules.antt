@@ -7,6 +7,7 @@ use mathlib.Core.Option.{Option, none, some}
 use mathlib.Core.List.{List}
 use native.Mathlib.Omega.{arith}
 use lib.ListN.{length}
+use Rattle.std.proofs.lemmas.Bool.{true≢false, false≢true}
 use Rattle.refusal.specs.Answers.{Answer, accepted, refused}
 use Rattle.refusal.specs.declared.Reason.TheVariants.{Incomplete}
 use Rattle.refusal.specs.declared.Refusal.{Refusal}
@@ -27,14 +28,14 @@ allows_none r n e = go (r.broken n) e
   where
     go : (o : Option (ℕ → ℕ → Refusal)) → if_some o (λ x. false) true ≡ true → o ≡ none
     go none e = refl
-    go (some x) e = let z : ◌≡◌ {A = ℕ} 0 1 = cc in absurd (omega arith)
+    go (some x) e = absurd (false≢true e)
 
 -- and not allowed just where it gets one
 pub allows_some : (r : Rule) (n : ℕ) → allows r n ≡ false → (x : ℕ → ℕ → Refusal) × (r.broken n ≡ some x)
 allows_some r n e = go (r.broken n) e
   where
     go : (o : Option (ℕ → ℕ → Refusal)) → if_some o (λ x. false) true ≡ false → (x : ℕ → ℕ → Refusal) × (o ≡ some x)
-    go none e = let z : ◌≡◌ {A = ℕ} 0 1 = cc in absurd (omega arith)
+    go none e = absurd (true≢false e)
     go (some x) e = (x, refl)
 
 pub none_allows : (r : Rule) (n : ℕ) → r.broken n ≡ none → allows r n ≡ true
@@ -47,12 +48,12 @@ unless_is false a = refl
 
 pub unless_none : {A : Type 0} (t : Bool) (a : A) → unless t a ≡ none → t ≡ true
 unless_none true a e = refl
-unless_none false a e = let z : ◌≡◌ {A = ℕ} 0 1 = cc in absurd (omega arith)
+unless_none false a e = let d : some a ≡ none = e in absurd cc
 
 -- a length that fails the test gets its refusal
 pub unless_fails : (t : Bool) (x : ℕ → ℕ → Refusal) (at next : ℕ) (p : Answer Part) {y : Refusal} → y ≡ x at next
     → if_some (unless t x) (λ x. false) true ≡ false → if_some (unless t x) (λ x. refused (x at next)) p ≡ refused y
-unless_fails true x at next p q e = let z : ◌≡◌ {A = ℕ} 0 1 = cc in absurd (omega arith)
+unless_fails true x at next p q e = absurd (true≢false e)
 unless_fails false x at next p q e = ap refused (sym q)
 
 pub ruled_in : (r : Rule) (s : List ℕ) (at next n : ℕ) → r.broken n ≡ none

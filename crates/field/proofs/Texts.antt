@@ -1,21 +1,22 @@
 -- A field written: what may stand in it, and what writing it comes to. Assumes nothing.
 use Prim.Native.Nat.{ℕ, ◌+◌, ◌^◌, ◌<◌, ◌≤◌}
-use mathlib.Core.Path.{◌≡◌, refl, sym, ◌∙◌}
+use mathlib.Core.Path.{◌≡◌, refl, sym, ap, ◌∙◌}
 use mathlib.Core.List.{List, ◌++◌}
 use mathlib.Core.Bool.{Bool, true, false, ◌&&◌}
 use native.Mathlib.Omega.{arith}
 use native.Mathlib.Nat.{pow-le-pow_right}
 use borrow.Author.Tests.{eqb-true, ltb-true, eq-eqb, lt-ltb}
 use lib.ListN.{length}
+use Rattle.std.proofs.lemmas.Bool.{and_parts}
 use Rattle.refusal.specs.Answers.{accepted, refused}
 use Rattle.refusal.specs.Refusals.{unplaced}
 use Rattle.refusal.specs.declared.Refusal.{Refusal}
 use Rattle.wire.specs.Numbers.{bytes_of, number_text}
-use Rattle.wire.specs.Puts.{put, room_at, written}
+use Rattle.wire.specs.Puts.{put, room, room_at, written}
 use Rattle.wire.specs.declared.view.Part.{Part}
-use Rattle.wire.proofs.Parts.{room_fits}
+use Rattle.wire.proofs.Parts.{found, room_in, room_fits}
 use Rattle.wire.proofs.Numbers.{length_bytes}
-use Rattle.wire.proofs.Puts.{Came, text_refused, text_in, text_out, written_in, number_accepted, length_put, put_put}
+use Rattle.wire.proofs.Puts.{Came, text_refused, text_in, text_out, number_put, length_put, put_put}
 use Rattle.field.specs.Fields.{Field, fixed, vector, Rule}
 use Rattle.field.specs.Standing.{field_bytes, Obeys}
 use Rattle.field.proofs.Rules.{allows_none, none_allows}
@@ -23,8 +24,7 @@ use Rattle.field.proofs.Steps.{length_vector}
 use Rattle.field.specs.Texts.{allowed, unfit, field_text}
 
 pub both_true : (a b : Bool) → (a && b) ≡ true → (a ≡ true) × (b ≡ true)
-both_true true b e = (refl, e)
-both_true false b e = let z : ◌≡◌ {A = ℕ} 0 1 = cc in absurd (omega arith)
+both_true a b e = and_parts a b e
 
 -- a part may stand in a field exactly where it is one of it
 pub obeys : (f : Field) (p : List ℕ) → allowed f (length p) ≡ true → Obeys f p
@@ -62,20 +62,25 @@ module _ (w : ℕ) (r : Rule) (p : List ℕ) (at : ℕ) (d : List ℕ) where
   vector_out {x} e q =
       text_out (field_bytes (vector w r) p) at d {r = x} (text_may (vector w r) p e) (rw (length_vector w r p) q)
 
-  pub vector_in : {x : Part} (o o' : List ℕ) → allowed (vector w r) (length p) ≡ true
-      → room_at d at (w + length p) ≡ accepted x
-      → o ≡ written (number_text w (length p)) at d → o' ≡ written (accepted p) (at + w) o
-      → Came (field_text (vector w r) p) at d (accepted x.next) o'
-  vector_in {x} o o' e q e₁ e₂ =
+  -- its length, with room for all of it
+  pub vector_width : {x : Part} → allowed (vector w r) (length p) ≡ true → room_at d at (w + length p) ≡ accepted x
+      → Came (number_text w (length p)) at d (accepted (at + w)) (put d at (bytes_of w (length p)))
+  vector_width {x} e q =
       let h = (room_fits d at (w + length p) q).inside in
+      number_put w (length p) at d {p = found at w} (obeys (vector w r) p e).0 (room_in d at w (omega arith))
+
+  pub vector_in : {x : Part} (o : List ℕ) → allowed (vector w r) (length p) ≡ true
+      → room_at d at (w + length p) ≡ accepted x → o ≡ put d at (bytes_of w (length p))
+      → Came (field_text (vector w r) p) at d (room (accepted p) (at + w) o) (written (accepted p) (at + w) o)
+  vector_in {x} o e q n =
+      let f = room_fits d at (w + length p) q in
+      let h = f.inside in
       let l = length_bytes w (length p) in
-      let n : o ≡ put d at (bytes_of w (length p)) =
-      e₁ ∙ written_in (bytes_of w (length p)) at d (number_accepted w (length p) (obeys (vector w r) p e).0)
-      (rw l (omega arith)) in
       let m : length o ≡ length d = rw n (length_put d at (bytes_of w (length p)) (rw l (omega arith))) in
       let c = text_in (field_bytes (vector w r) p) at d {p = x} (text_may (vector w r) p e)
       (rw (length_vector w r p) q) in
-      let b : o' ≡ put d at (bytes_of w (length p) ++ p) =
-      e₂ ∙ written_in p (at + w) o refl (rw m (omega arith))
-      ∙ rw n (rw l at (put_put d at (bytes_of w (length p)) p (rw l (omega arith)))) in
-      record { says = c.says; leaves = c.leaves ∙ sym b }
+      let i = text_in p (at + w) o {p = found (at + w) (length p)} refl (room_in o (at + w) (length p) (rw m (omega arith))) in
+      let b : put o (at + w) p ≡ put d at (bytes_of w (length p) ++ p) =
+      rw n (rw l at (put_put d at (bytes_of w (length p)) p (rw l (omega arith)))) in
+      let z : x.next ≡ at + w + length p = rw f.is (omega arith) in
+      record { says = c.says ∙ ap accepted z ∙ sym i.says; leaves = c.leaves ∙ sym b ∙ sym i.leaves }

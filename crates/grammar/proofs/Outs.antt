@@ -9,11 +9,10 @@ use borrow.Author.Tests.{leb-true, eqb-true}
 use lib.ListN.{length, drop, length-take, length-drop}
 use lib.Seq.{get_or-drop}
 use lib.Dec.{leb, eqb}
-use Rattle.wire.specs.Parts.{pick, part_of, opt_part_of}
+use Rattle.std.specs.Prelude.{Some, None}
+use Rattle.wire.specs.Parts.{pick, part_of, opt_part_of, OptView}
 use Rattle.wire.specs.Numbers.{Bytes, be, bytes_of}
 use Rattle.wire.specs.declared.view.View.{View}
-use Rattle.wire.specs.declared.view.OptView.{OptView}
-use Rattle.wire.specs.declared.view.OptView.TheVariants.{Absent, Present}
 use Rattle.wire.proofs.Numbers.{be_drop, of_be}
 use Rattle.field.specs.Fields.{Field}
 use Rattle.field.specs.Standing.{Obeys}
@@ -87,8 +86,8 @@ seen_row (as_opt false) s v vs from tail h r = part_row v vs from tail h r
 seen_row (as_number w) s v vs from tail h r = sooner vs from (v.start + v.len) tail (omega arith) r
 
 block_row : (e : OptView) (from tail : ℕ) → InOrder [] tt e from tail → InRow from (if_there e []) tail
-block_row Absent from tail o = o
-block_row (Present v) from tail o = o
+block_row None from tail o = o
+block_row (Some v) from tail o = o
 
 pub all_in_row : (rs : List Row) (s : List ℕ) (vs : Views rs) (e : OptView) (from tail : ℕ)
     → InOrder rs vs e from tail → InRow from (all_seen rs (outs rs s vs) (if_there e [])) tail

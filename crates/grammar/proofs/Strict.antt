@@ -33,7 +33,7 @@ test t p = t && eqb (length p) 0
 unfilled : (t : Bool) (p : List ℕ) → test t p ≡ true → Unfilled t p
 unfilled true [] q = (refl, refl)
 unfilled true (x ∷ xs) q = absurd (omega (arith, eqb-true (length (x ∷ xs)) 0 q))
-unfilled false p q = let f : false ≡ true = q in let z : ◌≡◌ {A = ℕ} 0 1 = cc in absurd (omega arith)
+unfilled false p q = let f : false ≡ true = q in absurd cc
 
 is_unfilled : (t : Bool) (p : List ℕ) → Unfilled t p → test t p ≡ true
 is_unfilled t p (e, f) = rw (e, f)
@@ -48,8 +48,7 @@ is_filled t p not = go (test t p) refl
 filled : (t : Bool) (p : List ℕ) → test t p ≡ false → Unfilled t p → ⊥
 filled t p q u =
     let f : true ≡ false = sym (is_unfilled t p u) ∙ q in
-    let z : ◌≡◌ {A = ℕ} 0 1 = cc in
-    omega arith
+    cc
 
 -- all rows
 all_filled : (rs : List Row) (ts : ToFill rs) (at : ℕ) (ps : Parts rs) → AllFilled rs ts ps

@@ -40,8 +40,7 @@ pub listed_lawful : {C : Type 0} (forms : Listing C) → AllLawful forms → (v 
     → lookup v forms ≡ some k → Lawful k
 listed_lawful {C = C} [] l v k e =
     let f : ◌≡◌ {A = Option (Form C)} none (some k) = e in
-    let z : ◌≡◌ {A = ℕ} 0 1 = cc in
-    absurd (omega arith)
+    absurd cc
 listed_lawful ((n, j) ∷ forms) (l, ls) v k e = go (listed_lawful forms ls v k) (eqb v n) e
   where
     go : (lookup v forms ≡ some k → Lawful k) → (t : Bool) → pick t (some j) (lookup v forms) ≡ some k → Lawful k

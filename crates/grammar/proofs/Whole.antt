@@ -8,15 +8,14 @@ use mathlib.Core.Option.{Option, none, some}
 use native.Mathlib.Omega.{arith}
 use native.Mathlib.Nat.{add-zero, zero-add}
 use lib.ListN.{length, drop, length-append}
+use Rattle.std.specs.Prelude.{Some, None}
 use Rattle.refusal.specs.Answers.{Answer, accepted, refused, then}
 use Rattle.refusal.specs.declared.Refusal.{Refusal}
 use Rattle.refusal.proofs.Then.{not_both, then_accepted, then_refused, either}
 use Rattle.wire.specs.Numbers.{Bytes}
-use Rattle.wire.specs.Parts.{part_of}
+use Rattle.wire.specs.Parts.{part_of, OptView}
 use Rattle.wire.specs.declared.view.View.{View}
 use Rattle.wire.specs.declared.view.Part.{Part}
-use Rattle.wire.specs.declared.view.OptView.{OptView}
-use Rattle.wire.specs.declared.view.OptView.TheVariants.{Absent, Present}
 use Rattle.field.specs.Fields.{Field, fixed, vector, step}
 use Rattle.field.specs.Standing.{field_bytes, place_of}
 use Rattle.grammar.specs.Grammars.{How, Row, Grammar, each, Views, Parts, Handed}
@@ -78,7 +77,7 @@ last_of (some f) s at (some p) tail bs h o d =
 last_of (some f) s at none tail bs h o d =
     record { found = go (step f s at) refl; behind = rw add-zero d; block = refl }
   where
-    go : (a : Answer Part) → step f s at ≡ a → if_fits (step f s at) at ≡ record { view = Absent; next = at + 0 }
+    go : (a : Answer Part) → step f s at ≡ a → if_fits (step f s at) at ≡ record { view = None; next = at + 0 }
     go (accepted q) e =
         let w = step_back f s at bs e in
         absurd (o (part_of s q.view) (drop q.next s) w.obeys (sym d ∙ w.bytes))
@@ -211,14 +210,14 @@ lacks_of ((f, m) ∷ rs) s at r b h e =
 -- the views of fields and of the block lie in field order, without overlap, from a place on and
 -- before the tail
 abbrev pub InOrder : (rs : List Row) → Views rs → OptView → ℕ → ℕ → Type 0
-InOrder [] vs Absent from tail = from ≤ tail
-InOrder [] vs (Present v) from tail = (from ≤ v.start) × (v.start + v.len ≤ tail)
+InOrder [] vs None from tail = from ≤ tail
+InOrder [] vs (Some v) from tail = (from ≤ v.start) × (v.start + v.len ≤ tail)
 InOrder ((f, m) ∷ rs) (v, vs) e from tail = (from ≤ v.start) × InOrder rs vs e (v.start + v.len) tail
 
 -- views lie in order where the places of fields do
 later : (vs : Unit) (e : OptView) (from at tail : ℕ) → from ≤ at → InOrder [] vs e at tail → InOrder [] vs e from tail
-later vs Absent from at tail h o = omega arith
-later vs (Present v) from at tail h o = (omega arith, o.1)
+later vs None from at tail h o = omega arith
+later vs (Some v) from at tail h o = (omega arith, o.1)
 
 ends : (f : Field) (at : ℕ) (p : List ℕ) → (at ≤ place_of f at)
     × (place_of f at + length p ≡ at + length (field_bytes f p))

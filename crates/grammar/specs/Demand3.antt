@@ -2,7 +2,7 @@
 -- 3.12. Splits and lacks are those of `Splits.antt`, with no reader in them.
 use Rattle.std.specs.Prelude.{◌+◌, ◌≤◌, ◌≡◌, ◌⊎◌, ◌∷◌}
 use Rattle.refusal.specs.{ℕ, Option, none, some, List, [], length, refusal, accepted, refused, Incomplete, Tag, Refusal}
-use Rattle.wire.specs.{lookup, Bytes, be, OptView, Absent, View}
+use Rattle.wire.specs.{lookup, Bytes, be, OptView, None, View}
 use Rattle.field.specs.{Field, fixed, TooFew}
 use Rattle.grammar.specs.Grammars.{as_view, as_opt, as_number, Row, Each}
 use Rattle.grammar.specs.Forms.{Outs, Form, value_of, reading, pieces, views, Listing, by_version, Announces}
@@ -16,7 +16,7 @@ Suits (f, as_number w) = f ≡ fixed w
 
 -- the block that a grammar may hand out: one without a block hands out none
 abbrev pub if_any : Option Field → OptView → OptView
-if_any none e = Absent
+if_any none e = None
 if_any (some f) e = e
 
 -- what is asked of a form: its value gives back what it was made of, and its numbers are fixed

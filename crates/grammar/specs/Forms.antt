@@ -3,7 +3,7 @@
 -- made of. From this, and with no reader, the pieces and the views that a value names.
 use Rattle.std.specs.Prelude.{◌≤◌, ◌∷◌, ◌≡◌}
 use Rattle.refusal.specs.{ℕ, List, [], true, false, drop, length, eqb, Option, none, some, refusal, Answer, then, refused, Tag, giving}
-use Rattle.wire.specs.{pick, part_of, opt_part_of, lookup, be, bytes_of, number_at, OptView, Absent, Present, View}
+use Rattle.wire.specs.{pick, part_of, opt_part_of, lookup, be, bytes_of, number_at, OptView, None, Some, View}
 use Rattle.grammar.specs.Grammars.{How, as_view, as_opt, as_number, Row, Grammar, Each, each, gather, Views, Parts, Handed}
 use Rattle.grammar.specs.Splits.{Pieces, block_of}
 use Rattle.grammar.specs.Reading.{read}
@@ -16,12 +16,12 @@ Out (as_number w) = ℕ
 
 -- RULES 3.9: a session id of length 0 is absent
 abbrev pub absent_if_empty : View → OptView
-absent_if_empty v = pick (eqb v.len 0) Absent (Present v)
+absent_if_empty v = pick (eqb v.len 0) None (Some v)
 
 -- what is handed out of the field whose part lies at a view
 abbrev pub out : (m : How) → List ℕ → View → Out m
 out as_view s v = v
-out (as_opt true) s v = Present v
+out (as_opt true) s v = Some v
 out (as_opt false) s v = absent_if_empty v
 out (as_number w) s v = be w s v.start
 
@@ -34,8 +34,8 @@ named (as_number w) s n = bytes_of w n
 
 -- a view, if there is one, before others
 abbrev pub if_there : OptView → List View → List View
-if_there Absent vs = vs
-if_there (Present v) vs = v ∷ vs
+if_there None vs = vs
+if_there (Some v) vs = v ∷ vs
 
 -- the views in a thing handed out, one or none, before those of later rows
 abbrev pub seen : (m : How) → Out m → List View → List View

@@ -3,7 +3,7 @@
 -- field the bytes, the parts it may have and its lack are in `field/specs/Standing.antt`.
 use Rattle.std.specs.Prelude.{◌+◌, ◌≡◌, ◌⊎◌, ◌∷◌, ◌++◌}
 use Rattle.refusal.specs.{ℕ, List, [], Option, none, some, length, Refusal}
-use Rattle.wire.specs.{part_of, OptView, Absent, Present}
+use Rattle.wire.specs.{part_of, OptView, None, Some}
 use Rattle.field.specs.{Field, field_bytes, Obeys, view_of, NoneAt, Lacks}
 use Rattle.grammar.specs.Grammars.{Row, Grammar, gather, Views, Parts, Handed}
 
@@ -46,9 +46,9 @@ views_of [] at ps = tt
 views_of ((f, m) ∷ rs) at (p, ps) = (view_of f at p, views_of rs (at + length (field_bytes f p)) ps)
 
 abbrev pub block_view : Option Field → ℕ → Option (List ℕ) → OptView
-block_view none at e = Absent
-block_view (some f) at none = Absent
-block_view (some f) at (some p) = Present (view_of f at p)
+block_view none at e = None
+block_view (some f) at none = None
+block_view (some f) at (some p) = Some (view_of f at p)
 
 -- the pieces as they are handed out: each where it stands in the body
 abbrev pub handed_of : (g : Grammar) → Pieces g → Handed g
@@ -60,8 +60,8 @@ handed_of g x = record {
 
 -- the bytes of a block that was handed out
 abbrev pub block_of : List ℕ → OptView → Option (List ℕ)
-block_of s Absent = none
-block_of s (Present v) = some (part_of s v)
+block_of s None = none
+block_of s (Some v) = some (part_of s v)
 
 -- the first field that cannot be had: those before it stand in the bytes, and what follows them
 -- lacks it

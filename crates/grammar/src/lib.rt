@@ -8,12 +8,12 @@ ghost use Rattle.grammar.specs.Reading.{block_at};
 
 use field::RuleName;
 use wire::number::Width;
-use wire::view::{OptView, PartAnswer};
+use wire::view::View;
 
 // A block that may be missing, and the place past it.
 #[derive(Clone, Copy)]
 pub struct OptPart {
-    pub view: OptView,
+    pub view: Option<View>,
     pub next: usize,
 }
 
@@ -23,16 +23,13 @@ pub fn opt_length_data(s: &[u8], at: usize, w: Width, rule: RuleName) -> OptPart
     ensures { result ≡ block_at (Field.vector (bytes_in w) (rule_of rule)) s.now at }
 {
     match field::length_data(s, at, w, rule) {
-        PartAnswer::Refused(_) => OptPart {
-            view: OptView::Absent,
+        Ok(p) => OptPart {
+            view: Some(p.view),
+            next: p.next,
+        },
+        Err(_) => OptPart {
+            view: None,
             next: at,
         },
-        PartAnswer::Got(p) => {
-            let v = p.view;
-            OptPart {
-                view: OptView::Present(v),
-                next: p.next,
-            }
-        }
     }
 }

@@ -31,11 +31,6 @@ pub item_none : (f : Field) (s : List ℕ) (at : ℕ) {r : Refusal} → item_fro
 unfolding item_from
 item_none f s at e = none (step f s at) e
 
--- the first of what is left is the item that begins there
-pub item_first : (f : Field) → 1 ≤ least f → (s : List ℕ) (at : ℕ) → place 0 (left f s at) ≡ item_from f s at
-unfolding item_from
-item_first f one s at = first (by_steps f one s) at
-
 -- all items are what is left at the front
 pub all_left : (f : Field) (s : List ℕ) → items f s ≡ left f s 0
 all_left f s = rest_all (step f s) (λ (p : Part). p.next) (length s)
@@ -46,8 +41,10 @@ none_more f one s n h = fuel (by_steps f one s) n (length s) 0 (omega arith) (om
 
 -- a walk begins with the first item, and goes on from the place handed out
 module _ (f : Field) (one : 1 ≤ least f) (s : List ℕ) where
+  -- the first is the item at the front
   pub begins : place 0 (items f s) ≡ item_from f s 0
-  begins = rw (all_left f s) (item_first f one s 0)
+  unfolding item_from
+  begins = rw (all_left f s) (first (by_steps f one s) 0)
 
   pub goes_on : (n : ℕ) (p : Part) → place n (items f s) ≡ accepted p
       → place (suc n) (items f s) ≡ item_from f s p.next

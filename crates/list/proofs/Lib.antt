@@ -1,4 +1,5 @@
 pub mod Walk
+pub mod Stepping
 pub mod Stopping
 pub mod Fields
 pub mod Fixed

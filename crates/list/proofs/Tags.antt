@@ -9,12 +9,11 @@ use native.Mathlib.Omega.{arith}
 use borrow.Author.Tests.{eqb-true, eqb-false, eq-eqb, ne_eqb}
 use lib.ListN.{length, drop, length-append, length-drop}
 use lib.Seq.{drop_at, drop-drop}
-use Rattle.refusal.specs.Answers.{Answer, accepted, refused, giving, OneResult}
+use Rattle.refusal.specs.Answers.{Answer, accepted, refused, giving}
 use Rattle.refusal.specs.Refusals.{refusal}
 use Rattle.refusal.specs.declared.Reason.TheVariants.{Incomplete, LengthValue}
 use Rattle.refusal.specs.declared.Refusal.{Refusal}
 use Rattle.refusal.proofs.Then.{not_both, then_accepted}
-use Rattle.refusal.proofs.Told.{tells_all}
 use Rattle.wire.specs.Numbers.{Bytes, be, bytes_of, number_at}
 use Rattle.wire.specs.Parts.{pick, part_of}
 use Rattle.wire.specs.declared.number.Number.{Number}
@@ -29,10 +28,8 @@ use Rattle.field.proofs.Steps.{step_back, step_of, view_of_lem, past_in, length_
 use Rattle.list.specs.Stopping.{end_of, Takes}
 use Rattle.list.specs.Tagged.{tagged_at, Fit, any_data, fit_at, tagged_in, tagged_end, filled, tagged_bytes, IsTagged}
 use Rattle.list.specs.Tagged.{EachTagged, join_tagged, NoneTagged, Fills, Breaks, stand_tagged, tagged_handed}
-use Rattle.list.specs.Tagged.{EveryTagged, tagged_says}
+use Rattle.list.specs.Tagged.{EveryTagged}
 use Rattle.list.specs.declared.tagged.Tagged.{Tagged}
-use Rattle.list.specs.declared.tagged.TaggedAnswer.{TaggedAnswer}
-use Rattle.list.specs.declared.tagged.TaggedAnswer.TheVariants.{Refused, Got}
 use Rattle.list.proofs.Walk.{Moves, rest, rest_on, rest_end, rest_all, none_at_all}
 use Rattle.list.proofs.Stopping.{moves_by, stops_by}
 
@@ -412,15 +409,3 @@ every_tagged w fit s b = record {
   lacks = lacks w fit s b;
   stopping = stops_by (moves w fit s);
 }
-
--- equal numbers and values mean equal answers
-abbrev tagged_back : Answer Tagged → TaggedAnswer
-tagged_back (accepted x) = Got x
-tagged_back (refused r) = Refused r
-
-pub one_tagged_lem : OneResult tagged_says
-one_tagged_lem = tells_all tagged_says tagged_back back
-  where
-    back : (a : TaggedAnswer) → tagged_back (tagged_says a) ≡ a
-    back (Refused r) = refl
-    back (Got x) = refl

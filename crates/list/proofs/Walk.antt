@@ -104,14 +104,6 @@ module _ {A : Type 0} {find : ℕ → Answer A} {past : A → ℕ} {n : ℕ} (mo
       go (accepted x) e = rw (rest_on moves at e, e)
       go (refused r) e = rw (rest_end moves at e, e)
 
-  -- one further
-  pub next : (at k j : ℕ) {x : A} → j < k → find at ≡ accepted x
-      → place (k - j) (rest find past n at) ≡ place (k - (j + 1)) (rest find past n (past x))
-  unfolding place
-  next at k j h e =
-      let d : k - j ≡ suc (k - (j + 1)) = omega arith in
-      rw (d, rest_on moves at e)
-
   -- past the last
   pub past_last : (at k : ℕ) {r : Refusal} → find at ≡ refused r
       → place k (rest find past n at) ≡ refused (refusal NoSuch 0 0)

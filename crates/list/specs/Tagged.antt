@@ -2,26 +2,22 @@
 -- data behind a length of two bytes. RULES 11.2; RFC 5246 7.4.1.4, RFC 6066 3. Which data a tag may
 -- have is an argument, so that what is shown here of the items, and of the bytes that they fill or
 -- fail to fill, is shown of all kinds at once.
-use Rattle.std.specs.Prelude.{◌+◌, ◌^◌, ◌<◌, ◌≤◌, ◌≡◌, ◌⊎◌, ◌∷◌, ◌++◌}
+use Rattle.refusal.specs.declared.Refusal.{Refusal}
+use Rattle.std.specs.Prelude.{◌+◌, ◌^◌, ◌<◌, ◌≤◌, ◌≡◌, ◌⊎◌, ◌∷◌, ◌++◌, Result, IfOk}
 use Rattle.refusal.specs.{ℕ, List, [], map, Bool, true, false, length, eqb, refusal, Answer, accepted, refused, then, LengthValue, giving}
 use Rattle.wire.specs.{pick, part_of, bytes_of, number_at, Bytes}
 use Rattle.field.specs.{sized, step, field_bytes}
 use Rattle.list.specs.Items.{items_from}
 use Rattle.list.specs.Stopping.{end_of, Stops}
-use Rattle.list.specs.declared.{tagged.Tagged.Tagged, tagged.TaggedAnswer.TaggedAnswer}
-
-abbrev pub tagged_says : TaggedAnswer → Answer Tagged
-tagged_says (TaggedAnswer.Refused r) = refused r
-tagged_says (TaggedAnswer.Got x) = accepted x
+use Rattle.list.specs.declared.{tagged.Tagged.Tagged}
 
 -- the item that begins at a place: its tag, where its data lies, and the place past it
 unfoldable pub tagged_at : ℕ → List ℕ → ℕ → Answer Tagged
 tagged_at w s at = then (number_at w s at) (λ t. giving (λ p. record { tag = t.value; view = p.view; next = p.next }) (step (sized 2) s t.next))
 
 -- the tag and the data of an item that was found are numbers of their bytes
-abbrev pub TaggedBelow : ℕ → TaggedAnswer → Type 0
-TaggedBelow w (TaggedAnswer.Refused r) = Unit
-TaggedBelow w (TaggedAnswer.Got x) = (x.tag < 256 ^ w) × (x.view.len < 256 ^ 2)
+abbrev pub TaggedBelow : ℕ → Result Tagged Refusal → Type 0
+TaggedBelow w a = IfOk a (λ x. (x.tag < 256 ^ w) × (x.view.len < 256 ^ 2))
 
 -- which data stands behind which tag
 abbrev pub Fit : Type 0

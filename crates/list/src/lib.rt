@@ -4,4 +4,5 @@
 
 pub mod items;
 pub mod numbers;
+pub mod steps;
 pub mod tagged;

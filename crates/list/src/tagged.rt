@@ -1,12 +1,13 @@
 // Items with a tag, and data behind a length of two bytes: extensions and server names.
 ghost use Rattle.std.specs.Prelude.{◌≡◌};
 ghost use Rattle.wire.specs.Numbers.{bytes_in};
-ghost use Rattle.list.specs.Tagged.{tagged_at, tagged_says, TaggedBelow};
+ghost use Rattle.list.specs.Tagged.{tagged_at, TaggedBelow};
+ghost use Rattle.refusal.specs.Answers.{as_answer};
 
 use field::RuleName;
 use refusal::Refusal;
-use wire::number::{NumberAnswer, Width};
-use wire::view::{PartAnswer, View};
+use wire::number::Width;
+use wire::view::View;
 
 // An item that was found: its tag, where its data lies, and the place past it.
 #[derive(Clone, Copy)]
@@ -16,33 +17,16 @@ pub struct Tagged {
     pub next: usize,
 }
 
-// Holds an item with a tag, or the refusal.
-#[derive(Clone, Copy)]
-pub enum TaggedAnswer {
-    Refused(Refusal),
-    Got(Tagged),
-}
-
 // The item that begins at `at`, its tag of that width.
-pub fn tagged_from(s: &[u8], at: usize, w: Width) -> TaggedAnswer
-    ensures result_value { tagged_says result ≡ tagged_at (bytes_in w) s.now at }
+pub fn tagged_from(s: &[u8], at: usize, w: Width) -> Result<Tagged, Refusal>
+    ensures result_value { as_answer result ≡ tagged_at (bytes_in w) s.now at }
     ensures tagged_below { TaggedBelow (bytes_in w) result }
 {
-    let t = match wire::number::parse_be(s, at, w) {
-        NumberAnswer::Refused(r) => {
-            return TaggedAnswer::Refused(r);
-        }
-        NumberAnswer::Got(t) => t,
-    };
-    match field::length_data(s, t.next, Width::Two, RuleName::Plain) {
-        PartAnswer::Refused(r) => TaggedAnswer::Refused(r),
-        PartAnswer::Got(p) => {
-            let view = p.view;
-            TaggedAnswer::Got(Tagged {
-                tag: t.value,
-                view,
-                next: p.next,
-            })
-        }
-    }
+    let t = wire::number::parse_be(s, at, w)?;
+    let p = field::length_data(s, t.next, Width::Two, RuleName::Plain)?;
+    Ok(Tagged {
+        tag: t.value,
+        view: p.view,
+        next: p.next,
+    })
 }

@@ -1,189 +1,132 @@
-// The hellos, and what asks for another. The body of each begins at `from` in the input.
-use crate::ciphers::say_cipher;
+// The hellos, and what asks for another.
+use crate::ciphers::Cipher;
 use crate::lists;
-use crate::names::{say_compression, say_version};
-use crate::say::{bytes, kind, part, text};
+use crate::names::{Compression, Version};
+use crate::say::{Count, Hex, Placed, kind};
 use list::numbers::number_count;
-use read_client::{Exactness, TlsClientHelloContents};
+use read_client::{Inexact, TlsClientHelloContents};
 use read_others::retry::TlsHelloRetryRequestContents;
 use read_server::tlsv12::TlsServerHelloContents;
 use read_server::tlsv13draft18::TlsServerHelloV13Draft18Contents;
 use std::io::{self, Write};
 use wire::number::Width;
-use wire::view::{OptView, View, part_of};
+use wire::view::View;
 
-fn version(to: &mut impl Write, n: usize) -> io::Result<()> {
-    text(to, b"    version ")?;
-    say_version(to, n)?;
-    text(to, b"\n")
+// The name of a hello, where its body lies, and its version.
+fn start(to: &mut impl Write, name: &str, body: Placed<'_>, version: u16) -> io::Result<()> {
+    kind(to, name, body)?;
+    writeln!(to, "    version {}", Version(version))
 }
 
-fn cipher(to: &mut impl Write, n: usize) -> io::Result<()> {
-    text(to, b"    cipher ")?;
-    say_cipher(to, n)?;
-    text(to, b"\n")
+fn random(to: &mut impl Write, r: Placed<'_>) -> io::Result<()> {
+    writeln!(to, "    random {r}: {}", Hex(r.bytes))
 }
 
-fn compression(to: &mut impl Write, n: usize) -> io::Result<()> {
-    text(to, b"    compression ")?;
-    say_compression(to, n)?;
-    text(to, b"\n")
+fn session_id(to: &mut impl Write, id: Option<View>, body: Placed<'_>) -> io::Result<()> {
+    let Some(v) = id else {
+        return writeln!(to, "    session id absent");
+    };
+    let id = body.part(v);
+    writeln!(to, "    session id {id}: {}", Hex(id.bytes))
 }
 
-// A part of the body with its bytes in hex.
-fn shown(to: &mut impl Write, name: &[u8], v: View, body: &[u8], from: usize) -> io::Result<()> {
-    part(to, name, from, v.start, v.len)?;
-    text(to, b": ")?;
-    bytes(to, part_of(body, v))?;
-    text(to, b"\n")
+fn ciphers(to: &mut impl Write, l: Placed<'_>) -> io::Result<()> {
+    let all = number_count(l.bytes, Width::Two);
+    writeln!(to, "    ciphers {l}, {}", Count(all, "cipher"))?;
+    lists::ciphers(to, l.bytes)
 }
 
-fn session_id(to: &mut impl Write, id: OptView, body: &[u8], from: usize) -> io::Result<()> {
-    match id {
-        OptView::Present(v) => shown(to, b"    session id", v, body, from),
-        OptView::Absent => text(to, b"    session id absent\n"),
-    }
-}
-
-fn ciphers(to: &mut impl Write, v: View, body: &[u8], from: usize) -> io::Result<()> {
-    let list = part_of(body, v);
-    part(to, b"    ciphers", from, v.start, v.len)?;
-    lists::how_many(to, number_count(list, Width::Two), b" cipher")?;
-    lists::ciphers(to, list)
-}
-
-fn methods(to: &mut impl Write, v: View, body: &[u8], from: usize) -> io::Result<()> {
-    part(to, b"    compression methods", from, v.start, v.len)?;
-    lists::methods(to, part_of(body, v))
-}
-
-fn present(to: &mut impl Write, v: View, goes_on: bool, from: usize) -> io::Result<()> {
-    part(to, b"    extensions present", from, v.start, v.len)?;
-    if goes_on {
-        text(to, b", and a tail follows\n")
-    } else {
-        text(to, b", and nothing follows\n")
-    }
-}
-
-// A hello that ends without extensions is told from one that goes on with bytes that are no whole
-// block.
-fn absent(to: &mut impl Write, goes_on: bool) -> io::Result<()> {
-    if goes_on {
-        text(
-            to,
-            b"    extensions absent, and a tail follows: a block may have been cut off\n",
-        )
-    } else {
-        text(to, b"    extensions absent, and nothing follows\n")
-    }
-}
-
-// The extensions, and whether bytes follow what the reader took. The tail itself is told behind the
-// body.
+// The extensions, and whether bytes follow what the reader took. A hello that ends without
+// extensions is told from one that goes on with bytes that are no whole block. The tail itself is
+// told behind the body.
 fn extensions(
     to: &mut impl Write,
-    ext: OptView,
+    ext: Option<View>,
     tail: usize,
-    body: &[u8],
-    from: usize,
+    body: Placed<'_>,
 ) -> io::Result<()> {
     let goes_on = tail < body.len();
     match ext {
-        OptView::Present(v) => present(to, v, goes_on, from),
-        OptView::Absent => absent(to, goes_on),
+        Some(v) => {
+            let follows = if goes_on { "a tail" } else { "nothing" };
+            writeln!(
+                to,
+                "    extensions present {}, and {follows} follows",
+                body.part(v)
+            )
+        }
+        None if goes_on => writeln!(
+            to,
+            "    extensions absent, and a tail follows: a block may have been cut off"
+        ),
+        None => writeln!(to, "    extensions absent, and nothing follows"),
     }
 }
 
 // Whether the strict reader takes the ClientHello (RULES 3.14), and if not, the first of its three
 // reasons.
-fn strict(to: &mut impl Write, e: Exactness) -> io::Result<()> {
+// stays: a Display of `Inexact` would have to say one thing, and the rows say another
+fn strict(to: &mut impl Write, e: Result<(), Inexact>) -> io::Result<()> {
     match e {
-        Exactness::Exact => text(to, b"    strict: taken\n"),
-        Exactness::NoCiphers => text(to, b"    strict: refused, no ciphers\n"),
-        Exactness::NoMethods => text(to, b"    strict: refused, no compression methods\n"),
-        Exactness::HasTail => text(to, b"    strict: refused, a tail follows\n"),
+        Ok(()) => writeln!(to, "    strict: taken"),
+        Err(Inexact::NoCiphers) => writeln!(to, "    strict: refused, no ciphers"),
+        Err(Inexact::NoMethods) => writeln!(to, "    strict: refused, no compression methods"),
+        Err(Inexact::HasTail) => writeln!(to, "    strict: refused, a tail follows"),
     }
 }
 
 pub(crate) fn client(
     to: &mut impl Write,
     c: TlsClientHelloContents,
-    body: &[u8],
-    from: usize,
+    body: Placed<'_>,
 ) -> io::Result<()> {
-    let random = c.random;
-    let id = c.session_id;
-    let cipher_list = c.ciphers;
-    let method_list = c.comp;
-    let ext = c.ext;
-    kind(to, b"ClientHello", from, body.len())?;
-    version(to, c.version() as usize)?;
-    shown(to, b"    random", random, body, from)?;
-    session_id(to, id, body, from)?;
-    ciphers(to, cipher_list, body, from)?;
-    methods(to, method_list, body, from)?;
-    extensions(to, ext, c.tail, body, from)?;
-    strict(to, c.exactness(body))
-}
-
-fn server_extensions(
-    to: &mut impl Write,
-    c: TlsServerHelloContents,
-    body: &[u8],
-    from: usize,
-) -> io::Result<()> {
-    let ext = c.ext;
-    if c.version as usize == registry::version::SSL30 {
-        return text(
-            to,
-            b"    extensions absent: never looked for at version 0300\n",
-        );
-    }
-    extensions(to, ext, c.tail, body, from)
+    start(to, "ClientHello", body, c.version())?;
+    random(to, body.part(c.random))?;
+    session_id(to, c.session_id, body)?;
+    ciphers(to, body.part(c.ciphers))?;
+    let methods = body.part(c.comp);
+    write!(to, "    compression methods {methods}")?;
+    lists::methods(to, methods.bytes)?;
+    extensions(to, c.ext, c.tail, body)?;
+    strict(to, c.exactness(body.bytes))
 }
 
 pub(crate) fn server(
     to: &mut impl Write,
     c: TlsServerHelloContents,
-    body: &[u8],
-    from: usize,
+    body: Placed<'_>,
 ) -> io::Result<()> {
-    let random = c.random;
-    let id = c.session_id;
-    kind(to, b"ServerHello", from, body.len())?;
-    version(to, c.version as usize)?;
-    shown(to, b"    random", random, body, from)?;
-    session_id(to, id, body, from)?;
-    cipher(to, c.cipher as usize)?;
-    compression(to, c.compression as usize)?;
-    server_extensions(to, c, body, from)
+    start(to, "ServerHello", body, c.version)?;
+    random(to, body.part(c.random))?;
+    session_id(to, c.session_id, body)?;
+    writeln!(to, "    cipher {}", Cipher(c.cipher))?;
+    writeln!(to, "    compression {}", Compression(c.compression))?;
+    if c.version as usize == registry::version::SSL30 {
+        return writeln!(
+            to,
+            "    extensions absent: never looked for at version 0300"
+        );
+    }
+    extensions(to, c.ext, c.tail, body)
 }
 
 pub(crate) fn draft18(
     to: &mut impl Write,
     c: TlsServerHelloV13Draft18Contents,
-    body: &[u8],
-    from: usize,
+    body: Placed<'_>,
 ) -> io::Result<()> {
-    let random = c.random;
-    let ext = c.ext;
-    kind(to, b"ServerHello of draft 18", from, body.len())?;
-    version(to, c.version as usize)?;
-    shown(to, b"    random", random, body, from)?;
-    cipher(to, c.cipher as usize)?;
-    extensions(to, ext, c.tail, body, from)
+    start(to, "ServerHello of draft 18", body, c.version)?;
+    random(to, body.part(c.random))?;
+    writeln!(to, "    cipher {}", Cipher(c.cipher))?;
+    extensions(to, c.ext, c.tail, body)
 }
 
 pub(crate) fn retry(
     to: &mut impl Write,
     c: TlsHelloRetryRequestContents,
-    body: &[u8],
-    from: usize,
+    body: Placed<'_>,
 ) -> io::Result<()> {
-    let ext = c.ext;
-    kind(to, b"HelloRetryRequest", from, body.len())?;
-    version(to, c.version as usize)?;
-    cipher(to, c.cipher as usize)?;
-    extensions(to, ext, c.tail, body, from)
+    start(to, "HelloRetryRequest", body, c.version)?;
+    writeln!(to, "    cipher {}", Cipher(c.cipher))?;
+    extensions(to, c.ext, c.tail, body)
 }

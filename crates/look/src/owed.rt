@@ -13,23 +13,18 @@ pub(crate) const BELIEVED: usize = 131072;
 fn begun_in(s: &[u8]) -> usize
     ensures { result ≡ begun s.now }
 {
-    let all = record_walk::count_messages(s, 0);
-    let lack = record_tally::lacking(s, all.end);
-    if lack > BELIEVED {
-        return 0;
-    }
-    lack
+    let lack = record_tally::lacking(s, record_walk::count_messages(s, 0).end);
+    if lack > BELIEVED { 0 } else { lack }
 }
 
 // How many bytes of a record belong to a message begun before it, of which `owed` are owed.
 pub(crate) fn passed_over(r: TlsRawRecord, owed: usize) -> usize
     ensures { result ≡ passed r.hdr.record_type owed }
 {
-    let hdr = r.hdr;
-    if hdr.record_type == registry::record::HANDSHAKE {
-        return owed;
+    match r.hdr.record_type {
+        registry::record::HANDSHAKE => owed,
+        _ => 0,
     }
-    0
 }
 
 // How many bytes of a message are owed after the record `r` of the window `s`, before which `owed`
@@ -37,17 +32,13 @@ pub(crate) fn passed_over(r: TlsRawRecord, owed: usize) -> usize
 pub(crate) fn owed_after(r: TlsRawRecord, owed: usize, s: &[u8], sealed: bool) -> usize
     ensures { result ≡ owed_after sealed r.hdr.record_type owed (part_of s.now r.«data») }
 {
-    let hdr = r.hdr;
-    let data = r.data;
-    if sealed {
+    if sealed || r.hdr.record_type != registry::record::HANDSHAKE {
         return 0;
     }
-    if hdr.record_type != registry::record::HANDSHAKE {
-        return 0;
-    }
-    let content = part_of(s, data);
+    let content = part_of(s, r.data);
     if content.len() < owed {
-        return owed - content.len();
+        owed - content.len()
+    } else {
+        begun_in(rest_of(content, owed))
     }
-    begun_in(rest_of(content, owed))
 }

@@ -1,116 +1,113 @@
-// Printing: text, numbers, and parts with their place in the input.
-use list::numbers::{number_at, number_count};
+// What lines are made of: counts, and bytes with their place in the input.
+ghost use Rattle.std.specs.Prelude.{◌≡◌, ◌+◌, ◌%◌, ◌^◌, drop, length};
+ghost use Rattle.wire.specs.Parts.{part_of};
+
+use std::fmt;
 use std::io::{self, Write};
-use wire::number::{NumberAnswer, Width};
+use wire::view::{View, part_of, rest_of};
 
-// Prints text as it is.
-pub(crate) fn text(to: &mut impl Write, t: &[u8]) -> io::Result<()> {
-    to.write_all(t)
-}
+// A number with a comma before each three digits, up to twelve of them.
+#[derive(Clone, Copy)]
+pub(crate) struct Amount(pub(crate) usize);
 
-// Prints a number in decimal.
-pub(crate) fn number(to: &mut impl Write, n: usize) -> io::Result<()> {
-    write!(to, "{n}")
-}
-
-// Prints a number in hex, with zeros in front up to so many digits.
-pub(crate) fn hex(to: &mut impl Write, n: usize, digits: usize) -> io::Result<()> {
-    write!(to, "{n:0digits$x}")
-}
-
-// The last three digits of a number, behind a comma.
-fn last_three(to: &mut impl Write, n: usize) -> io::Result<()> {
-    let three = n % 1000;
-    text(to, b",")?;
-    number(to, three / 100)?;
-    number(to, three / 10 % 10)?;
-    number(to, three % 10)
-}
-
-fn below_million(to: &mut impl Write, n: usize) -> io::Result<()> {
-    if n < 1000 {
-        return number(to, n);
+impl fmt::Display for Amount {
+    fn fmt<W: fmt::Write>(&self, f: &mut fmt::Formatter<W>) -> fmt::Result {
+        let n = self.0;
+        let (billions, millions, thousands) = (n / 1_000_000_000, n / 1_000_000, n / 1000);
+        if billions > 0 {
+            write!(
+                f,
+                "{billions},{:03},{:03},{:03}",
+                millions % 1000,
+                thousands % 1000,
+                n % 1000
+            )
+        } else if millions > 0 {
+            write!(f, "{millions},{:03},{:03}", thousands % 1000, n % 1000)
+        } else if thousands > 0 {
+            write!(f, "{thousands},{:03}", n % 1000)
+        } else {
+            write!(f, "{n}")
+        }
     }
-    number(to, n / 1000)?;
-    last_three(to, n)
 }
 
-// Prints a number with a comma before each three digits, up to twelve of them.
-pub(crate) fn amount(to: &mut impl Write, n: usize) -> io::Result<()> {
-    if n < 1000000 {
-        return below_million(to, n);
+// So many of what is named, which takes an s where they are not one.
+#[derive(Clone, Copy)]
+pub(crate) struct Count(pub(crate) usize, pub(crate) &'static str);
+
+impl fmt::Display for Count {
+    fn fmt<W: fmt::Write>(&self, f: &mut fmt::Formatter<W>) -> fmt::Result {
+        let Count(n, name) = *self;
+        let end = if n == 1 { "" } else { "s" };
+        write!(f, "{} {name}{end}", Amount(n))
     }
-    below_million(to, n / 1000000)?;
-    last_three(to, n / 1000)?;
-    last_three(to, n)
 }
 
-// Prints so many of what `name` names, which takes an s where they are not one.
-pub(crate) fn count(to: &mut impl Write, n: usize, name: &[u8]) -> io::Result<()> {
-    amount(to, n)?;
-    text(to, name)?;
-    if n == 1 {
-        return Ok(());
+// Bytes in hex, one behind the other.
+#[derive(Clone, Copy)]
+pub(crate) struct Hex<'a>(pub(crate) &'a [u8]);
+
+impl fmt::Display for Hex<'_> {
+    fn fmt<W: fmt::Write>(&self, f: &mut fmt::Formatter<W>) -> fmt::Result {
+        for b in self.0 {
+            write!(f, "{b:02x}")?;
+        }
+        Ok(())
     }
-    text(to, b"s")
 }
 
-// Prints where bytes begin in the input, and how many they are. The place is `from` and `start` in
-// sum: where a body begins, and where a part of it does.
-pub(crate) fn extent(to: &mut impl Write, from: usize, start: usize, len: usize) -> io::Result<()> {
-    text(to, b" at ")?;
-    number(to, std::num::wrapping_add_usize(from, start))?;
-    text(to, b", ")?;
-    count(to, len, b" byte")
+// Bytes, and where they begin in the input. They are shown as their place and how many they are.
+#[derive(Clone, Copy)]
+pub(crate) struct Placed<'a> {
+    pub(crate) bytes: &'a [u8],
+    pub(crate) from: usize,
 }
 
-// Prints a field of a message: its name and its number in hex, without the end of the line.
-pub(crate) fn field(to: &mut impl Write, name: &[u8], n: usize, digits: usize) -> io::Result<()> {
-    text(to, name)?;
-    text(to, b" ")?;
-    hex(to, n, digits)
+impl<'a> Placed<'a> {
+    // The part of them that `v` names.
+    pub(crate) fn part(self, v: View) -> Placed<'a>
+        ensures part_bytes { result.bytes.now ≡ part_of self.entry.bytes.now v }
+        ensures part_place { result.from ≡ (self.entry.from + v.start) % 2 ^ 64 }
+    {
+        Placed {
+            bytes: part_of(self.bytes, v),
+            from: self.from.wrapping_add(v.start),
+        }
+    }
+
+    // Those from `at` on.
+    pub(crate) fn rest(self, at: usize) -> Placed<'a>
+        ensures rest_bytes { result.bytes.now ≡ drop at self.entry.bytes.now }
+        ensures rest_place { result.from ≡ (self.entry.from + at) % 2 ^ 64 }
+    {
+        Placed {
+            bytes: rest_of(self.bytes, at),
+            from: self.from.wrapping_add(at),
+        }
+    }
+
+    // How many they are.
+    pub(crate) fn len(self) -> usize
+        ensures { result ≡ length self.entry.bytes.now }
+    {
+        self.bytes.len()
+    }
 }
 
-// Prints a part of a message: its name and where it lies, without the end of the line.
-pub(crate) fn part(
-    to: &mut impl Write,
-    name: &[u8],
-    from: usize,
-    start: usize,
-    len: usize,
-) -> io::Result<()> {
-    text(to, name)?;
-    extent(to, from, start, len)
+impl fmt::Display for Placed<'_> {
+    fn fmt<W: fmt::Write>(&self, f: &mut fmt::Formatter<W>) -> fmt::Result {
+        let from = self.from;
+        write!(f, "at {from}, {}", Count(self.bytes.len(), "byte"))
+    }
 }
 
 // Begins the line of a message: its number in its record, and where it begins in the input.
 pub(crate) fn message(to: &mut impl Write, k: usize, place: usize) -> io::Result<()> {
-    text(to, b"  message ")?;
-    number(to, k)?;
-    text(to, b" at ")?;
-    number(to, place)?;
-    text(to, b": ")
+    write!(to, "  message {k} at {place}: ")
 }
 
 // Prints the kind of a message, behind its number and place, and where its body lies.
-pub(crate) fn kind(to: &mut impl Write, name: &[u8], from: usize, len: usize) -> io::Result<()> {
-    text(to, name)?;
-    text(to, b", body")?;
-    extent(to, from, 0, len)?;
-    text(to, b"\n")
-}
-
-fn byte(to: &mut impl Write, a: NumberAnswer) -> io::Result<()> {
-    if let NumberAnswer::Got(n) = a {
-        hex(to, n.value, 2)?;
-    }
-    Ok(())
-}
-
-// Prints bytes in hex, one behind the other.
-pub(crate) fn bytes(to: &mut impl Write, b: &[u8]) -> io::Result<()> {
-    for k in 0..number_count(b, Width::One) {
-        byte(to, number_at(b, Width::One, k))?;
-    }
-    Ok(())
+pub(crate) fn kind(to: &mut impl Write, name: &str, body: Placed<'_>) -> io::Result<()> {
+    writeln!(to, "{name}, body {body}")
 }

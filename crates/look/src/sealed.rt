@@ -5,23 +5,16 @@ ghost use Rattle.record_open.specs.Plaintext.{plaintext};
 ghost use Rattle.look.specs.Sealed.{is_sealed, sealed_after};
 
 use record::TlsRawRecord;
-use record_open::PlaintextAnswer;
 
 // Whether the record `r` is taken for encrypted; `after`: a ChangeCipherSpec stands before it.
 pub(crate) fn is_sealed(r: TlsRawRecord, after: bool) -> bool
     ensures { result ≡ is_sealed after r.hdr.record_type }
 {
-    let hdr = r.hdr;
-    if hdr.record_type == registry::record::ALERT {
-        return after;
+    match r.hdr.record_type {
+        registry::record::ALERT | registry::record::HANDSHAKE | registry::record::HEARTBEAT =>
+            after,
+        _ => false,
     }
-    if hdr.record_type == registry::record::HANDSHAKE {
-        return after;
-    }
-    if hdr.record_type == registry::record::HEARTBEAT {
-        return after;
-    }
-    false
 }
 
 // Whether a ChangeCipherSpec stands before what follows the record `r`, with which `s` begins. One
@@ -29,12 +22,8 @@ pub(crate) fn is_sealed(r: TlsRawRecord, after: bool) -> bool
 pub(crate) fn sealed_after(r: TlsRawRecord, s: &[u8], after: bool) -> bool
     ensures { result ≡ sealed_after after r.hdr.record_type (plaintext s.now) }
 {
-    let hdr = r.hdr;
-    if hdr.record_type != registry::record::CHANGE_CIPHER_SPEC {
+    if r.hdr.record_type != registry::record::CHANGE_CIPHER_SPEC {
         return after;
     }
-    match record_open::parse_tls_plaintext(s) {
-        PlaintextAnswer::Refused(_) => after,
-        PlaintextAnswer::Got(_) => true,
-    }
+    after || record_open::parse_tls_plaintext(s).is_ok()
 }

@@ -2,7 +2,7 @@
 ghost use Rattle.std.specs.Prelude.{◌≡◌};
 ghost use Rattle.look.specs.Sums.{added, continued_sums, hellos_in, no_sums, opened_sums, refused_sums, sealed_sums};
 
-use crate::say::{amount, count, text};
+use crate::say::{Amount, Count};
 use record_open::TlsPlaintext;
 use record_tally::HelloTally;
 use std::io::{self, Write};
@@ -10,7 +10,7 @@ use std::io::{self, Write};
 // Of the records told: how many they are, are refused, are sealed and go on with a message begun
 // before them; their messages and dropped bytes; the hellos among the messages, and those
 // whose extensions may have been cut off.
-#[derive(Clone, Copy)]
+#[derive(Clone, Copy, Default)]
 pub(crate) struct Sums {
     pub(crate) records: usize,
     pub(crate) refused: usize,
@@ -27,31 +27,21 @@ pub(crate) struct Sums {
 pub(crate) fn none() -> Sums
     ensures { result ≡ no_sums }
 {
-    Sums {
-        records: 0,
-        refused: 0,
-        sealed: 0,
-        continued: 0,
-        messages: 0,
-        dropped: 0,
-        clients: 0,
-        servers: 0,
-        cut: 0,
-    }
+    Sums::default()
 }
 
 // The hellos in the content of the record `p`, which are those of a handshake record.
 pub(crate) fn hellos_in(p: TlsPlaintext, content: &[u8]) -> HelloTally
     ensures { result ≡ hellos_in p.hdr.record_type content.now }
 {
-    let hdr = p.hdr;
-    if hdr.record_type == registry::record::HANDSHAKE {
-        return record_tally::count_hellos(content);
-    }
-    HelloTally {
-        clients: 0,
-        servers: 0,
-        cut: 0,
+    if p.hdr.record_type == registry::record::HANDSHAKE {
+        record_tally::count_hellos(content)
+    } else {
+        HelloTally {
+            clients: 0,
+            servers: 0,
+            cut: 0,
+        }
     }
 }
 
@@ -61,14 +51,12 @@ pub(crate) fn opened(p: TlsPlaintext, h: HelloTally) -> Sums
 {
     Sums {
         records: 1,
-        refused: 0,
-        sealed: 0,
-        continued: 0,
         messages: p.count,
         dropped: p.dropped,
         clients: h.clients,
         servers: h.servers,
         cut: h.cut,
+        ..none()
     }
 }
 
@@ -76,20 +64,22 @@ pub(crate) fn opened(p: TlsPlaintext, h: HelloTally) -> Sums
 pub(crate) fn refused() -> Sums
     ensures { result ≡ refused_sums }
 {
-    let mut s = none();
-    s.records = 1;
-    s.refused = 1;
-    s
+    Sums {
+        records: 1,
+        refused: 1,
+        ..none()
+    }
 }
 
 // Those of one record that is sealed, and so not opened.
 pub(crate) fn sealed() -> Sums
     ensures { result ≡ sealed_sums }
 {
-    let mut s = none();
-    s.records = 1;
-    s.sealed = 1;
-    s
+    Sums {
+        records: 1,
+        sealed: 1,
+        ..none()
+    }
 }
 
 // Those of one record that goes on with a message begun before it, by the bytes `s` behind those of
@@ -101,14 +91,13 @@ pub(crate) fn continued(s: &[u8]) -> Sums
     let hellos = record_tally::count_hellos(s);
     Sums {
         records: 1,
-        refused: 0,
-        sealed: 0,
         continued: 1,
         messages: all.count,
         dropped: wire::view::rest_of(s, all.end).len(),
         clients: hellos.clients,
         servers: hellos.servers,
         cut: hellos.cut,
+        ..none()
     }
 }
 
@@ -116,57 +105,54 @@ pub(crate) fn continued(s: &[u8]) -> Sums
 pub(crate) fn both(a: Sums, b: Sums) -> Sums
     ensures { result ≡ added a b }
 {
+    // stays: `+` would say that the sums fit
     Sums {
-        records: std::num::wrapping_add_usize(a.records, b.records),
-        refused: std::num::wrapping_add_usize(a.refused, b.refused),
-        sealed: std::num::wrapping_add_usize(a.sealed, b.sealed),
-        continued: std::num::wrapping_add_usize(a.continued, b.continued),
-        messages: std::num::wrapping_add_usize(a.messages, b.messages),
-        dropped: std::num::wrapping_add_usize(a.dropped, b.dropped),
-        clients: std::num::wrapping_add_usize(a.clients, b.clients),
-        servers: std::num::wrapping_add_usize(a.servers, b.servers),
-        cut: std::num::wrapping_add_usize(a.cut, b.cut),
+        records: a.records.wrapping_add(b.records),
+        refused: a.refused.wrapping_add(b.refused),
+        sealed: a.sealed.wrapping_add(b.sealed),
+        continued: a.continued.wrapping_add(b.continued),
+        messages: a.messages.wrapping_add(b.messages),
+        dropped: a.dropped.wrapping_add(b.dropped),
+        clients: a.clients.wrapping_add(b.clients),
+        servers: a.servers.wrapping_add(b.servers),
+        cut: a.cut.wrapping_add(b.cut),
     }
 }
 
 // The hellos, and those that a person has to look at.
 fn say_hellos(to: &mut impl Write, s: Sums) -> io::Result<()> {
-    text(to, b"  ")?;
-    count(to, s.clients, b" ClientHello")?;
-    text(to, b", ")?;
-    count(to, s.servers, b" ServerHello")?;
-    text(to, b"; with a tail in place of extensions: ")?;
-    amount(to, s.cut)?;
+    let (clients, servers) = (
+        Count(s.clients, "ClientHello"),
+        Count(s.servers, "ServerHello"),
+    );
+    write!(
+        to,
+        "  {clients}, {servers}; with a tail in place of extensions: {}",
+        Amount(s.cut)
+    )?;
     if s.cut > 0 {
-        text(to, b" (a block may have been cut off)")?;
+        write!(to, " (a block may have been cut off)")?;
     }
-    text(to, b"\n")
+    writeln!(to)
 }
 
 // What was not opened, refused or dropped, and how many bytes no record holds.
 fn say_rest(to: &mut impl Write, s: Sums, left: usize) -> io::Result<()> {
-    text(to, b"  ")?;
-    count(to, s.sealed, b" record")?;
-    text(to, b" not opened, ")?;
-    amount(to, s.refused)?;
-    text(to, b" refused, ")?;
-    amount(to, s.continued)?;
-    text(to, b" going on with a message, ")?;
-    count(to, s.dropped, b" byte")?;
-    text(to, b" dropped, ")?;
-    count(to, left, b" byte")?;
-    text(to, b" left over\n")
+    let (sealed, refused) = (Count(s.sealed, "record"), Amount(s.refused));
+    write!(to, "  {sealed} not opened, {refused} refused")?;
+    let (dropped, left) = (Count(s.dropped, "byte"), Count(left, "byte"));
+    write!(to, ", {} going on with a message", Amount(s.continued))?;
+    writeln!(to, ", {dropped} dropped, {left} left over")
 }
 
 // Prints the summary, of so many bytes, of which `left` are behind the last whole record.
 pub(crate) fn say_sums(to: &mut impl Write, s: Sums, all: usize, left: usize) -> io::Result<()> {
-    text(to, b"in all: ")?;
-    count(to, s.records, b" record")?;
-    text(to, b", ")?;
-    count(to, s.messages, b" message")?;
-    text(to, b", ")?;
-    count(to, all, b" byte")?;
-    text(to, b" read\n")?;
+    let (records, messages) = (Count(s.records, "record"), Count(s.messages, "message"));
+    writeln!(
+        to,
+        "in all: {records}, {messages}, {} read",
+        Count(all, "byte")
+    )?;
     say_hellos(to, s)?;
     say_rest(to, s, left)
 }

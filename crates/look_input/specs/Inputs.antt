@@ -12,36 +12,36 @@ abbrev pub between : ℕ → ℕ → ℕ → Bool
 between low b high = leb low b && leb b high
 
 -- libpcap's pcap-savefile: either byte order, microseconds or nanoseconds
-unfoldable pub is_pcap : ℕ → Bool
+abbrev pub is_pcap : ℕ → Bool
 is_pcap n = eqb n pcap || (eqb n pcap_swapped || (eqb n pcap_nano || eqb n pcap_nano_swapped))
 
 -- RFC 1952 2.3.1: ID1, ID2, and deflate as the method
-unfoldable pub is_gzip : ℕ → ℕ → ℕ → Bool
+abbrev pub is_gzip : ℕ → ℕ → ℕ → Bool
 is_gzip first second third = eqb first gzip_id1 && (eqb second gzip_id2 && eqb third gzip_deflate)
 
 -- RFC 6347 4.1: a record's type, and a version that is counted down from 0xfeff
-unfoldable pub is_dtls : ℕ → ℕ → Bool
+abbrev pub is_dtls : ℕ → ℕ → Bool
 is_dtls first second = between type_low first type_high && eqb second dtls_major
 
 -- RFC 5246 E.2: the length's top bit, the type CLIENT-HELLO, and a version of SSL 2.0, or 0x0300 on
-unfoldable pub is_ssl2 : ℕ → ℕ → ℕ → Bool
+abbrev pub is_ssl2 : ℕ → ℕ → ℕ → Bool
 is_ssl2 first third fourth =
     between ssl2_top first ssl2_last && (eqb third ssl2_client_hello && (eqb fourth ssl2_major || eqb fourth tls_major))
 
 -- 0 to 9, a to f, A to F
-unfoldable pub is_hex_digit : ℕ → Bool
+abbrev pub is_hex_digit : ℕ → Bool
 is_hex_digit b = between 0x30 b 0x39 || (between 0x61 b 0x66 || between 0x41 b 0x46)
 
 -- a space, a tab, and the ends of lines
-unfoldable pub is_blank : ℕ → Bool
+abbrev pub is_blank : ℕ → Bool
 is_blank b = eqb b space || (eqb b tab || (eqb b line_feed || eqb b carriage_return))
 
 -- what stands in bytes that are written in hex: digits, blanks and colons
-unfoldable pub is_text : ℕ → Bool
+abbrev pub is_text : ℕ → Bool
 is_text b = is_hex_digit b || (is_blank b || eqb b colon)
 
 -- each of the four bytes
-unfoldable pub is_hex : ℕ → ℕ → ℕ → ℕ → Bool
+abbrev pub is_hex : ℕ → ℕ → ℕ → ℕ → Bool
 is_hex first second third fourth = is_text first && (is_text second && (is_text third && is_text fourth))
 
 -- what stands beside the first test that holds, else the other

@@ -35,13 +35,3 @@ pub const SSL2_CLIENT_HELLO: u8 = 0x01;
 pub const SSL2_MAJOR: u8 = 0x00;
 // The first byte of the versions from 0x0300 on (RFC 5246 E.2).
 pub const TLS_MAJOR: u8 = 0x03;
-// A blank between bytes that are written in hex.
-pub const SPACE: u8 = 0x20;
-// Another blank.
-pub const TAB: u8 = 0x09;
-// What ends a line.
-pub const LINE_FEED: u8 = 0x0a;
-// What stands before a line feed in some texts.
-pub const CARRIAGE_RETURN: u8 = 0x0d;
-// What often stands between two bytes that are written in hex.
-pub const COLON: u8 = 0x3a;

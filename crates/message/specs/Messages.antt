@@ -2,19 +2,15 @@
 -- (RULES 5.3: they are dropped, and it is told where they begin), its number and type (RULES 5.4),
 -- and whether it is written (RULES 0.5, 7.1); and the answer of a reader of messages.
 use Rattle.std.specs.Prelude.{◌+◌}
-use Rattle.refusal.specs.{ℕ, Option, none, some, eqb, unplaced, Answer, accepted, refused, NotYetImplemented}
+use Rattle.refusal.specs.{ℕ, Option, none, some, eqb, unplaced, Answer, refused, NotYetImplemented}
 use Rattle.registry.specs.Types.{hello_request_type, client_hello_type, server_hello_type, new_session_ticket_type, end_of_early_data_type, hello_retry_request_type, certificate_type, server_key_exchange_type, certificate_request_type, server_done_type, certificate_verify_type, client_key_exchange_type, finished_type, certificate_status_type, next_protocol_type, key_update_type}
 use Rattle.registry.specs.Versions.{tls13_draft18}
 use Rattle.wire.specs.{pick, View}
 use Rattle.read_client.specs.{TlsClientHelloContents}
 use Rattle.read_server.specs.{TlsServerHelloContents, TlsServerHelloV13Draft18Contents}
-use Rattle.message.specs.declared.{handshake.MessageAnswer.MessageAnswer, handshake.TlsMessageHandshake.TlsMessageHandshake, keyexchange.TlsClientKeyExchangeContents.TlsClientKeyExchangeContents}
+use Rattle.message.specs.declared.{handshake.TlsMessageHandshake.TlsMessageHandshake, keyexchange.TlsClientKeyExchangeContents.TlsClientKeyExchangeContents}
 use Rattle.message.specs.declared.handshake.TlsMessageHandshake.TheVariants.{HelloRequest, ClientHello, ServerHello, ServerHelloV13Draft18, NewSessionTicket, EndOfEarlyData, HelloRetryRequest, Certificate, ServerKeyExchange, CertificateRequest, ServerDone, CertificateVerify, ClientKeyExchange, Finished, CertificateStatus, NextProtocol, KeyUpdate}
 use Rattle.message.specs.declared.keyexchange.TlsClientKeyExchangeContents.TheVariants.{Dh, Ecdh, Unknown}
-
-abbrev pub message_says : MessageAnswer → Answer TlsMessageHandshake
-message_says (MessageAnswer.Refused r) = refused r
-message_says (MessageAnswer.Got m) = accepted m
 
 abbrev pub past_view : View → ℕ
 past_view v = v.start + v.len

@@ -37,15 +37,9 @@ pub enum TlsMessageHandshake {
     KeyUpdate(u8),
 }
 
-// Holds a message of any kind, or the refusal.
-#[derive(Clone, Copy)]
-pub enum MessageAnswer {
-    Refused(Refusal),
-    Got(TlsMessageHandshake),
-}
-
 // The number of each kind, by which it is told and heard: its type, and of a ServerHello of draft
 // 18 its version.
+// stays: the C library matches numbers of a C call on these, and a pattern takes no cast.
 pub const HELLO_REQUEST: usize = registry::handshake::HELLO_REQUEST as usize;
 
 pub const CLIENT_HELLO: usize = registry::handshake::CLIENT_HELLO as usize;
@@ -85,32 +79,32 @@ fn behind_exchange(k: TlsClientKeyExchangeContents, body: &[u8]) -> &[u8]
     ensures { result.now ≡ drop (exchange_tail k) body.now }
 {
     match k {
-        TlsClientKeyExchangeContents::Dh(v) => wire::view::behind(body, v),
-        TlsClientKeyExchangeContents::Ecdh(v) => wire::view::behind(body, v),
-        TlsClientKeyExchangeContents::Unknown(v) => wire::view::behind(body, v),
+        TlsClientKeyExchangeContents::Dh(v)
+        | TlsClientKeyExchangeContents::Ecdh(v)
+        | TlsClientKeyExchangeContents::Unknown(v) => wire::view::behind(body, v),
     }
 }
 
 impl TlsMessageHandshake {
     // What the body's reader left over of the body.
+    // stays: a `match` by the kind is plainer than functions in a table.
     pub fn rest(self, body: &[u8]) -> &[u8]
         ensures { result.now ≡ drop (tail_of self) body.now }
     {
         match self {
-            TlsMessageHandshake::HelloRequest => wire::view::rest_of(body, 0),
+            TlsMessageHandshake::HelloRequest | TlsMessageHandshake::EndOfEarlyData => body,
             TlsMessageHandshake::ClientHello(c) => wire::view::rest_of(body, c.tail),
             TlsMessageHandshake::ServerHello(c) => wire::view::rest_of(body, c.tail),
             TlsMessageHandshake::ServerHelloV13Draft18(c) => wire::view::rest_of(body, c.tail),
             TlsMessageHandshake::NewSessionTicket(c) => wire::view::rest_of(body, c.tail),
-            TlsMessageHandshake::EndOfEarlyData => wire::view::rest_of(body, 0),
             TlsMessageHandshake::HelloRetryRequest(c) => wire::view::rest_of(body, c.tail),
             TlsMessageHandshake::Certificate(c) => wire::view::rest_of(body, c.tail),
             TlsMessageHandshake::ServerKeyExchange(c) => wire::view::behind(body, c.parameters),
             TlsMessageHandshake::CertificateRequest(c) => wire::view::rest_of(body, c.tail),
-            TlsMessageHandshake::ServerDone(v) => wire::view::behind(body, v),
-            TlsMessageHandshake::CertificateVerify(v) => wire::view::behind(body, v),
+            TlsMessageHandshake::ServerDone(v)
+            | TlsMessageHandshake::CertificateVerify(v)
+            | TlsMessageHandshake::Finished(v) => wire::view::behind(body, v),
             TlsMessageHandshake::ClientKeyExchange(k) => behind_exchange(k, body),
-            TlsMessageHandshake::Finished(v) => wire::view::behind(body, v),
             TlsMessageHandshake::CertificateStatus(c) => wire::view::rest_of(body, c.tail),
             TlsMessageHandshake::NextProtocol(c) => wire::view::rest_of(body, c.tail),
             TlsMessageHandshake::KeyUpdate(_) => wire::view::rest_of(body, 1),

@@ -8,6 +8,7 @@ pub struct TlsServerKeyExchangeContents {
 }
 
 // The number of a raw key exchange, where it is told or heard.
+// stays: a C call names the form by these numbers, and a pattern takes no cast.
 pub const RAW: usize = 0;
 // That of a Diffie-Hellman one.
 pub const DIFFIE_HELLMAN: usize = 1;

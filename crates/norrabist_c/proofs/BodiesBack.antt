@@ -7,12 +7,11 @@ use mathlib.Core.List.{List}
 use native.Mathlib.Omega.{arith}
 use native.Mathlib.Nat.{mul_comm}
 use lib.ListN.{length, length-append}
+use Rattle.std.specs.Prelude.{Some}
 use Rattle.refusal.specs.Answers.{accepted}
 use Rattle.refusal.specs.declared.Reason.TheVariants.{Incomplete}
 use Rattle.wire.specs.Numbers.{Bytes, be}
-use Rattle.wire.specs.Parts.{part_of, opt_part_of}
-use Rattle.wire.specs.declared.view.OptView.{OptView}
-use Rattle.wire.specs.declared.view.OptView.TheVariants.{Present}
+use Rattle.wire.specs.Parts.{part_of, opt_part_of, OptView}
 use Rattle.wire.specs.declared.view.Part.{Part}
 use Rattle.wire.proofs.Parts.{part_in}
 use Rattle.wire.proofs.Numbers.{length_bytes, number_got}
@@ -121,9 +120,9 @@ module _ (s : List ℕ) (b : Bytes s) where
       ap (λ (x : TlsCertificateRequestContents). x.cert_types.len) m in
       let l : c.unparsed_ca.len ≡ length (part_of s c.unparsed_ca) =
       ap (λ (x : TlsCertificateRequestContents). x.unparsed_ca.len) m in
-      let v : c.sig_hash_algs ≡ Present (record { start = 3 + c.cert_types.len; len = n }) =
+      let v : c.sig_hash_algs ≡ Some (record { start = 3 + c.cert_types.len; len = n }) =
       ap (λ (x : TlsCertificateRequestContents). x.sig_hash_algs) m
-      ∙ ap (λ (x : ℕ). Present (record { start = x; len = n }))
+      ∙ ap (λ (x : ℕ). Some (record { start = x; len = n }))
       (simp (length-append, length_bytes) (omega (arith, k))) in
       let a : c.unparsed_ca.start ≡ 5 + c.cert_types.len + n =
       ap (λ (x : TlsCertificateRequestContents). x.unparsed_ca.start) m

@@ -7,13 +7,15 @@ use mathlib.Core.Bool.{Bool, true, false}
 use mathlib.Core.List.{List}
 use native.Mathlib.Omega.{arith}
 use lib.ListN.{length}
+use Rattle.std.specs.Prelude.{None}
 use Rattle.refusal.specs.Answers.{Answer, accepted, refused, or_else}
 use Rattle.refusal.specs.Refusals.{refusal}
 use Rattle.refusal.specs.declared.Reason.TheVariants.{Complete}
 use Rattle.refusal.proofs.Then.{not_both, then_accepted}
-use Rattle.wire.specs.Numbers.{Bytes, be}
+use Rattle.wire.specs.Numbers.{Bytes, be, bytes_in}
+use Rattle.wire.specs.declared.number.Width.{Width}
+use Rattle.wire.specs.declared.number.Width.TheVariants.{One, Two, Three, Four}
 use Rattle.wire.specs.Parts.{part_of, opt_part_of}
-use Rattle.wire.specs.declared.view.OptView.TheVariants.{Absent}
 use Rattle.wire.specs.declared.view.Part.{Part}
 use Rattle.wire.specs.declared.number.Number.{Number}
 use Rattle.wire.proofs.Numbers.{be_lt}
@@ -110,7 +112,7 @@ module _ (s : List ℕ) (b : Bytes s) {c : TlsCertificateRequestContents} where
       ap (λ (x : TlsCertificateRequestContents). (opt_told x.sig_hash_algs).len) (made_of d e) in
       omega (arith, l, (d.splits c e).obey.1.0.0)
 
-  pub no_pairs : reading (request false) s ≡ accepted c → c.sig_hash_algs ≡ Absent
+  pub no_pairs : reading (request false) s ≡ accepted c → c.sig_hash_algs ≡ None
   unfolding views_of
   no_pairs e =
       let d = splits_request_lem false s b in
@@ -128,12 +130,20 @@ module _ (s : List ℕ) (b : Bytes s) {c : TlsCertificateRequestContents} where
     pairs_len = ⊎_elim form_pairs (λ y. rw (no_pairs y) (omega arith)) (by_form s e)
 
 -- the item whose length has w bytes
-pub item_len : (w : ℕ) (s : List ℕ) (at : ℕ) {p : Part} → Bytes s → item_from (sized w) s at ≡ accepted p
+of_width : (w : ℕ) (s : List ℕ) (at : ℕ) {p : Part} → Bytes s → item_from (sized w) s at ≡ accepted p
     → p.view.len < 256 ^ w
-item_len w s at {p} b e =
+of_width w s at {p} b e =
     let f = step_back (sized w) s at b (item_got (sized w) s at e) in
     let l : p.view.len ≡ length (part_of s p.view) = ap (λ (q : Part). q.view.len) f.place in
     omega (arith, l, f.obeys.0)
+
+-- so that four bytes hold it
+pub item_len : (w : Width) (s : List ℕ) (at : ℕ) {p : Part} → Bytes s → item_from (sized (bytes_in w)) s at ≡ accepted p
+    → p.view.len < 4294967296
+item_len One s at b e = omega (arith, of_width 1 s at b e)
+item_len Two s at b e = omega (arith, of_width 2 s at b e)
+item_len Three s at b e = omega (arith, of_width 3 s at b e)
+item_len Four s at b e = of_width 4 s at b e
 
 -- and the number at a place has two bytes
 pub number_len : (n : ℕ) (s : List ℕ) {x : Number} → Bytes s → number_place n 2 s ≡ accepted x → x.value < 65536

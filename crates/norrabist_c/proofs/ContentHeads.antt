@@ -11,7 +11,6 @@ use lib.ListN.{length}
 use Rattle.refusal.specs.Answers.{Answer, accepted, refused, giving}
 use Rattle.refusal.specs.Refusals.{refusal}
 use Rattle.refusal.specs.declared.Reason.TheVariants.{Switch}
-use Rattle.refusal.specs.declared.Refusal.{Refusal}
 use Rattle.refusal.proofs.Then.{not_both, then_accepted}
 use Rattle.list.specs.Items.{place}
 use Rattle.envelope.specs.Opening.{met_at}
@@ -20,7 +19,7 @@ use Rattle.content_walk.specs.ContentWalks.{found_at, handshake_found, messages_
 use Rattle.content_walk.specs.declared.TlsFound.{TlsFound}
 use Rattle.content_walk.proofs.Found.{found_16, picked}
 use Rattle.content_walk.proofs.Walking.{first_on}
-use Rattle.record_open.specs.Plaintext.{as_content, as_first, first_of, first_refusal, is_opened}
+use Rattle.record_open.specs.Plaintext.{as_content, as_first, first_of, is_opened}
 use Rattle.norrabist_c.specs.Contents.{as_found}
 use Rattle.norrabist_c.specs.Heads.{content_head, listed_head, no_head}
 
@@ -32,19 +31,6 @@ first_accepted at (refused r) e = absurd (not_both e refl)
 content_accepted : {A : Type 0} (t at : ℕ) (a : Answer A) {x : A} → as_content t at a ≡ accepted x → a ≡ accepted x
 content_accepted t at (accepted y) e = e
 content_accepted t at (refused r) e = absurd (not_both e refl)
-
--- what the place past a message says of its head
-no_head_lem : (a : Answer TlsFound) {r : Refusal} → giving (λ x. x.next) a ≡ refused r
-    → giving (λ x. no_head) a ≡ refused r
-no_head_lem (accepted x) e = absurd (not_both refl e)
-no_head_lem (refused q) {r} e =
-    let d : ◌≡◌ {A = Answer ℕ} (refused q) (refused r) = e in
-    let z : q ≡ r = cc in rw z
-
-a_head : (a : Answer TlsFound) {n : ℕ} → giving (λ x. x.next) a ≡ accepted n
-    → giving (λ x. no_head) a ≡ accepted no_head
-a_head (accepted x) e = refl
-a_head (refused q) e = absurd (not_both e refl)
 
 module _ (at : ℕ) (content : List ℕ) where
   -- the first message of a handshake record is a handshake message
@@ -65,26 +51,13 @@ module _ (t at : ℕ) (content : List ℕ) where
   unfolding content_head
   head_other q = rw q
 
-  -- that of a handshake message is told, and refused as the record's first
-  pub own_refused : {r : Refusal} → t ≡ 0x16 → listed_head content 0 ≡ refused r
-      → content_head t at content ≡ refused (first_refusal at r)
-  own_refused z e = head_16 (eq-eqb t 0x16 z) ∙ rw e
-
+  -- that of a handshake message is told
   pub own_got : {h : TlsMessageHead} → t ≡ 0x16 → listed_head content 0 ≡ accepted h
       → content_head t at content ≡ accepted h
   own_got z e = head_16 (eq-eqb t 0x16 z) ∙ rw e
 
-  -- none is told of another message, where it can be opened
-  pub other_refused : {r : Refusal} → (t ≡ 0x16 → ⊥) → giving (λ x. x.next) (first_of t at content) ≡ refused r
-      → content_head t at content ≡ refused r
-  other_refused out e = head_other (ne_eqb t 0x16 out) ∙ no_head_lem (first_of t at content) e
-
-  pub other_got : {n : ℕ} → (t ≡ 0x16 → ⊥) → giving (λ x. x.next) (first_of t at content) ≡ accepted n
-      → content_head t at content ≡ accepted no_head
-  other_got out e = head_other (ne_eqb t 0x16 out) ∙ a_head (first_of t at content) e
-
   -- a first message was found, and is the first of all
-  pub first_found : {x : TlsFound} → first_of t at content ≡ accepted x → found_at t content 0 ≡ accepted x
+  first_found : {x : TlsFound} → first_of t at content ≡ accepted x → found_at t content 0 ≡ accepted x
   unfolding first_of
   first_found e =
       content_accepted t at (found_at t content 0)

@@ -1,7 +1,7 @@
 -- What is told of an extension: that its length fits, and that it makes the extension. Assumes
 -- nothing.
 use Prim.Native.Nat.{ℕ, ◌+◌, ◌<◌}
-use mathlib.Core.Path.{◌≡◌, sym, ap, ◌∙◌}
+use mathlib.Core.Path.{◌≡◌, sym, ap}
 use mathlib.Core.List.{List}
 use native.Mathlib.Omega.{arith}
 use lib.ListN.{length}
@@ -13,17 +13,14 @@ use Rattle.list.specs.declared.tagged.Tagged.{Tagged}
 use Rattle.list.proofs.Tags.{fit_back, length_tagged}
 use Rattle.read_ext.specs.Extensions.{InBlock, sound, content_view, extension_of, extension_says, opened}
 use Rattle.read_ext.specs.Kinds.{fits}
-use Rattle.read_ext.specs.declared.TlsExtensionAnswer.{TlsExtensionAnswer}
-use Rattle.read_ext.specs.declared.TlsExtensionAnswer.TheVariants.{Damaged, Refused, Got}
+use Rattle.std.specs.Prelude.{Result, Ok, Err}
+use Rattle.read_ext.specs.declared.NotHad.{NotHad}
+use Rattle.read_ext.specs.declared.NotHad.TheVariants.{Damaged, Refused}
 use Rattle.read_ext.specs.declared.TlsExtensionFound.{TlsExtensionFound}
 use Rattle.read_ext.proofs.Blocks.{Item, from_item, place_item}
 use Rattle.read_ext.proofs.Data.{says_content}
 use Rattle.read_ext.proofs.Turns.{name_got}
 use Rattle.norrabist_c.specs.Extensions.{Tellable, extension_told, extension_back, EveryExtensionBack}
-
--- what an answer for a block says, by its case
-pub case_in : {A B : Type 0} (says : B → InBlock A) {o x : B} {a : InBlock A} → says o ≡ a → o ≡ x → a ≡ says x
-case_in says e g = sym e ∙ ap says g
 
 -- two bytes hold the length of the content of what is found
 pub item_below : (s : List ℕ) → Bytes s → {y : TlsExtensionFound} → Item s y → y.content.len < 65536
@@ -35,11 +32,11 @@ item_below s b {y} (m, x, f, o) =
     omega (arith, l, c, w.obeys.1)
 
 -- so what a walk or a place answers can be told
-pub tellable : (answer : TlsExtensionAnswer) {a : InBlock (Answer TlsExtensionFound)} → extension_says answer ≡ a
+pub tellable : (answer : Result TlsExtensionFound NotHad) {a : InBlock (Answer TlsExtensionFound)} → extension_says answer ≡ a
     → ((y : TlsExtensionFound) → a ≡ sound (accepted y) → y.content.len < 65536) → Tellable answer
-tellable (Damaged d) e h = tt
-tellable (Refused r) e h = tt
-tellable (Got y) e h = h y (sym e)
+tellable (Err (Damaged d)) e h = tt
+tellable (Err (Refused r)) e h = tt
+tellable (Ok y) e h = h y (sym e)
 
 -- an item that was found is made of what is told of it
 made_back : (s : List ℕ) → Bytes s → {y : TlsExtensionFound} → Item s y

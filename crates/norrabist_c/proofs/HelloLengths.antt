@@ -11,10 +11,9 @@ use lib.ListN.{length}
 use Rattle.refusal.specs.Answers.{accepted}
 use Rattle.refusal.proofs.Then.{not_both, then_accepted}
 use Rattle.wire.specs.Numbers.{Bytes, number_at}
-use Rattle.wire.specs.Parts.{lookup, part_of}
+use Rattle.wire.specs.Parts.{lookup, part_of, OptView}
 use Rattle.field.specs.Fields.{Field}
 use Rattle.wire.specs.declared.view.View.{View}
-use Rattle.wire.specs.declared.view.OptView.{OptView}
 use Rattle.grammar.specs.Forms.{Form, absent_if_empty, reading, pieces, by_version, if_listed}
 use Rattle.grammar.specs.Hellos.{extensions}
 use Rattle.grammar.specs.Splits.{Split, BlockObeys, block_view, handed_of, join, views_of}

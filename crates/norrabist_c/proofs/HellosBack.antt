@@ -18,9 +18,8 @@ use Rattle.message.specs.declared.handshake.TlsMessageHandshake.TheVariants.{Ser
 use Rattle.open_hellos.specs.HelloMessages.{server_message}
 use Rattle.wire.proofs.Numbers.{length_bytes, number_value}
 use Rattle.wire.specs.Numbers.{Bytes, be, bytes_of, number_at}
-use Rattle.wire.specs.Parts.{pick}
+use Rattle.wire.specs.Parts.{pick, OptView}
 use Rattle.wire.specs.declared.view.View.{View}
-use Rattle.wire.specs.declared.view.OptView.{OptView}
 use Rattle.grammar.specs.Hellos.{extensions}
 use Rattle.grammar.specs.Forms.{Form, absent_if_empty, by_version, reading, value_of, pieces}
 use Rattle.grammar.specs.Demand3.{BySplit}
@@ -51,7 +50,7 @@ same_len v = go (eqb v.len 0) refl
     go false q = rw q
 
 -- the bytes of a vector are its length's and its own
-pub vector_len : (w : ℕ) (p : List ℕ) → length (bytes_of w (length p) ++ p) ≡ w + length p
+vector_len : (w : ℕ) (p : List ℕ) → length (bytes_of w (length p) ++ p) ≡ w + length p
 vector_len w p = length-append (bytes_of w (length p)) p ∙ ap (λ (n : ℕ). n + length p) (length_bytes w (length p))
 
 pub same_view : {a b m n : ℕ} → a ≡ b → m ≡ n → ◌≡◌ {A = View} (record { start = a; len = m })

@@ -1,5 +1,4 @@
 pub mod HelloLengths
-pub mod ServerVersions
 pub mod HellosBack
 pub mod ContentHeads
 pub mod HeadLengths
@@ -7,7 +6,5 @@ pub mod HeadsBack
 pub mod ContentsBack
 pub mod BodyParts
 pub mod BodiesBack
-pub mod Verdicts
 pub mod ExtensionParts
-pub mod WrittenTexts
 pub mod Slices

@@ -2,7 +2,7 @@
 -- that nothing is lost. RULES 1.7, 3.11. Shown by `proofs/BodiesBack.antt`.
 use Rattle.std.specs.Prelude.{◌+◌, ◌*◌, ◌/◌, ◌<◌, ◌≤◌, ◌≡◌}
 use Rattle.refusal.specs.{ℕ, List, length, refusal, accepted, refused, NoSuch}
-use Rattle.wire.specs.{pick, be, OptView, Absent, Present, Part}
+use Rattle.wire.specs.{pick, be, OptView, None, Some, Part}
 use Rattle.field.specs.{fixed, sized}
 use Rattle.grammar.specs.{reading}
 use Rattle.list.specs.{item_from, items, number_place}
@@ -28,7 +28,7 @@ abbrev pub names_at : CertificateRequestTold → ℕ
 names_at t = pick t.has_pairs (5 + t.types + t.pairs) (3 + t.types)
 
 abbrev pub pairs_from : CertificateRequestTold → OptView
-pairs_from t = pick t.has_pairs (Present (record { start = 3 + t.types; len = t.pairs })) Absent
+pairs_from t = pick t.has_pairs (Some (record { start = 3 + t.types; len = t.pairs })) None
 
 abbrev pub request_from : CertificateRequestTold → TlsCertificateRequestContents
 request_from t = record {

@@ -6,7 +6,8 @@ use Rattle.refusal.specs.{ℕ, List, Answer, accepted, refused, number_of}
 use Rattle.wire.specs.{Bytes}
 use Rattle.list.specs.declared.tagged.Tagged.{Tagged}
 use Rattle.read_ext.specs.Extensions.{InBlock, sound, damaged, extension_of, extension_from, extension_place, name_from}
-use Rattle.read_ext.specs.declared.TlsExtensionAnswer.{TlsExtensionAnswer}
+use Rattle.std.specs.Prelude.{Result, Ok, Err}
+use Rattle.read_ext.specs.declared.NotHad.{NotHad}
 use Rattle.read_ext.specs.declared.TlsExtensionFound.{TlsExtensionFound}
 use Rattle.norrabist_c.specs.declared.{extensions.ExtensionsTold.ExtensionsTold, extensions.ExtensionTold.ExtensionTold, extensions.ServerNameTold.ServerNameTold}
 
@@ -20,10 +21,9 @@ extension_told (sound (refused r)) = record { start = 0; ext_type = 0; len = 0; 
 extension_told (damaged n r) = record { start = 0; ext_type = 0; len = 0; number = number_of r.reason }
 
 -- two bytes hold the length of the content, as they do of all that is found
-abbrev pub Tellable : TlsExtensionAnswer → Type 0
-Tellable (TlsExtensionAnswer.Damaged d) = Unit
-Tellable (TlsExtensionAnswer.Refused r) = Unit
-Tellable (TlsExtensionAnswer.Got x) = x.content.len < 65536
+abbrev pub Tellable : Result TlsExtensionFound NotHad → Type 0
+Tellable (Err e) = Unit
+Tellable (Ok x) = x.content.len < 65536
 
 abbrev pub name_told : Answer Tagged → ServerNameTold
 name_told (accepted x) = record { start = x.view.start; len = x.view.len; name_type = x.tag; number = 0 }

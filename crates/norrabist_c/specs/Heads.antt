@@ -11,7 +11,7 @@ use Rattle.record.specs.{raw, TlsRawRecord, TlsRecordHeader}
 use Rattle.list.specs.{end_of}
 use Rattle.content_walk.specs.{TlsFound}
 use Rattle.record_open.specs.{as_first, first_of}
-use Rattle.record_many.specs.{TlsRecords}
+use Rattle.list.specs.declared.steps.Counted.{Counted as TlsRecords}
 use Rattle.record_walk.specs.Walks.{past_all}
 use Rattle.norrabist_c.specs.declared.{messages.MessageHeadTold.MessageHeadTold, messages.TallyTold.TallyTold, records.RecordHeadTold.RecordHeadTold, records.PlaintextHeadTold.PlaintextHeadTold, records.ContentHeadTold.ContentHeadTold, records.RecordsTold.RecordsTold}
 

@@ -3,7 +3,7 @@
 use Rattle.std.specs.Prelude.{◌+◌, ◌≡◌}
 use Rattle.refusal.specs.{ℕ, List, Bool, eqb, accepted}
 use Rattle.registry.specs.Versions.{tls13_draft18}
-use Rattle.wire.specs.{pick, OptView, Absent, Present}
+use Rattle.wire.specs.{pick, OptView, None, Some}
 use Rattle.grammar.specs.{reading, by_version}
 use Rattle.grammar.specs.Forms.{absent_if_empty}
 use Rattle.message.specs.{TlsMessageHandshake, ServerHello, ServerHelloV13Draft18}
@@ -17,7 +17,7 @@ use Rattle.norrabist_c.specs.declared.{hellos.ClientHelloTold.ClientHelloTold, h
 
 -- the extensions behind the last field, which ends at a place, and the tail
 abbrev pub ext_from : Bool → ℕ → ℕ → OptView
-ext_from present end len = pick present (Present (record { start = end + 2; len = len })) Absent
+ext_from present end len = pick present (Some (record { start = end + 2; len = len })) None
 
 abbrev pub tail_from : Bool → ℕ → ℕ → ℕ
 tail_from present end len = pick present (end + 2 + len) end

@@ -1,8 +1,16 @@
 -- What is told of a part that may be missing: whether it is there, and its length.
-use Rattle.refusal.specs.{true, false}
-use Rattle.wire.specs.{OptView, Absent, Present}
-use Rattle.norrabist_c.specs.declared.parts.OptTold.{OptTold}
+use Rattle.std.specs.Prelude.{is_some}
+use Rattle.refusal.specs.{ℕ, Bool}
+use Rattle.wire.specs.{OptView, None, Some}
+
+pub record OptTold : Type 0 where
+  pub len : ℕ
+  pub present : Bool
+
+-- the length of a part, of an absent one 0
+abbrev pub opt_len : OptView → ℕ
+opt_len None = 0
+opt_len (Some v) = v.len
 
 abbrev pub opt_told : OptView → OptTold
-opt_told Absent = record { len = 0; present = false }
-opt_told (Present v) = record { len = v.len; present = true }
+opt_told v = record { len = opt_len v; present = is_some v }

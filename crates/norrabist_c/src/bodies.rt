@@ -8,17 +8,13 @@ ghost use Rattle.read_others.specs.Body.{next_protocol, session_ticket};
 ghost use Rattle.refusal.specs.Answers.{number_in};
 ghost use Rattle.wire.specs.Numbers.{number_at};
 
-use read_certs::certificate::CertificateAnswer;
-use read_certs::request::CertificateRequestAnswer;
-use read_certs::status::CertificateStatusAnswer;
-use read_others::next_protocol::NextProtocolAnswer;
-use read_others::ticket::NewSessionTicketAnswer;
-use wire::number::{NumberAnswer, Width};
-use wire::view::{OptView, PartAnswer};
+use crate::parts::len_of;
+use crate::refusals::answer_number;
+use wire::number::Width;
 
 // What is told of a NewSessionTicket's body: lifetime, and the length of the ticket.
 #[repr(C)]
-#[derive(Clone, Copy)]
+#[derive(Clone, Copy, Default)]
 pub struct NewSessionTicketTold {
     pub ticket: usize,
     pub hint: u32,
@@ -34,12 +30,11 @@ pub extern "C" fn norrabist_parse_tls_handshake_msg_newsessionticket(
     ensures { result ≡ ticket_told (session_ticket len i.now) }
 {
     match read_others::ticket::parse_tls_newsessionticket(i, len) {
-        NewSessionTicketAnswer::Refused(r) => NewSessionTicketTold {
-            ticket: 0,
-            hint: 0,
+        Err(r) => NewSessionTicketTold {
             number: refusal::refusal_number(r),
+            ..Default::default()
         },
-        NewSessionTicketAnswer::Got(c) => NewSessionTicketTold {
+        Ok(c) => NewSessionTicketTold {
             ticket: c.ticket.len,
             hint: c.ticket_lifetime_hint,
             number: 0,
@@ -49,7 +44,7 @@ pub extern "C" fn norrabist_parse_tls_handshake_msg_newsessionticket(
 
 // What is told of a Certificate's body: the length of the list.
 #[repr(C)]
-#[derive(Clone, Copy)]
+#[derive(Clone, Copy, Default)]
 pub struct CertificateTold {
     pub chain: u32,
     pub number: u8,
@@ -61,11 +56,11 @@ pub extern "C" fn norrabist_parse_tls_handshake_msg_certificate(i: &[u8]) -> Cer
     ensures { result ≡ certificate_told (reading certificate i.now) }
 {
     match read_certs::certificate::parse_tls_certificate(i) {
-        CertificateAnswer::Refused(r) => CertificateTold {
-            chain: 0,
+        Err(r) => CertificateTold {
             number: refusal::refusal_number(r),
+            ..Default::default()
         },
-        CertificateAnswer::Got(c) => CertificateTold {
+        Ok(c) => CertificateTold {
             chain: c.cert_chain.len as u32,
             number: 0,
         },
@@ -75,7 +70,7 @@ pub extern "C" fn norrabist_parse_tls_handshake_msg_certificate(i: &[u8]) -> Cer
 // What is told of a CertificateRequest's body: the lengths of the types, the pairs and the names,
 // and whether there are pairs, as in the long form.
 #[repr(C)]
-#[derive(Clone, Copy)]
+#[derive(Clone, Copy, Default)]
 pub struct CertificateRequestTold {
     pub pairs: u16,
     pub names: u16,
@@ -92,38 +87,23 @@ pub extern "C" fn norrabist_parse_tls_handshake_certificaterequest(
     ensures { result ≡ request_told (certificate_request i.now) }
 {
     match read_certs::request::parse_tls_handshake_certificaterequest(i) {
-        CertificateRequestAnswer::Refused(r) => CertificateRequestTold {
-            pairs: 0,
-            names: 0,
-            types: 0,
-            has_pairs: false,
+        Err(r) => CertificateRequestTold {
             number: refusal::refusal_number(r),
+            ..Default::default()
         },
-        CertificateRequestAnswer::Got(c) => {
-            let pairs_view = c.sig_hash_algs;
-            match pairs_view {
-                OptView::Absent => CertificateRequestTold {
-                    pairs: 0,
-                    names: c.unparsed_ca.len as u16,
-                    types: c.cert_types.len as u8,
-                    has_pairs: false,
-                    number: 0,
-                },
-                OptView::Present(pairs) => CertificateRequestTold {
-                    pairs: pairs.len as u16,
-                    names: c.unparsed_ca.len as u16,
-                    types: c.cert_types.len as u8,
-                    has_pairs: true,
-                    number: 0,
-                },
-            }
-        }
+        Ok(c) => CertificateRequestTold {
+            pairs: len_of(c.sig_hash_algs) as u16,
+            names: c.unparsed_ca.len as u16,
+            types: c.cert_types.len as u8,
+            has_pairs: c.sig_hash_algs.is_some(),
+            number: 0,
+        },
     }
 }
 
 // What is told of a CertificateStatus's body: its type, and the length of the response.
 #[repr(C)]
-#[derive(Clone, Copy)]
+#[derive(Clone, Copy, Default)]
 pub struct CertificateStatusTold {
     pub blob: u32,
     pub status_type: u8,
@@ -136,12 +116,11 @@ pub extern "C" fn norrabist_parse_tls_handshake_certificatestatus(i: &[u8]) -> C
     ensures { result ≡ status_told (reading status i.now) }
 {
     match read_certs::status::parse_tls_handshake_certificatestatus(i) {
-        CertificateStatusAnswer::Refused(r) => CertificateStatusTold {
-            blob: 0,
-            status_type: 0,
+        Err(r) => CertificateStatusTold {
             number: refusal::refusal_number(r),
+            ..Default::default()
         },
-        CertificateStatusAnswer::Got(c) => CertificateStatusTold {
+        Ok(c) => CertificateStatusTold {
             blob: c.blob.len as u32,
             status_type: c.status_type,
             number: 0,
@@ -151,7 +130,7 @@ pub extern "C" fn norrabist_parse_tls_handshake_certificatestatus(i: &[u8]) -> C
 
 // What is told of a NextProtocol's body: the lengths of the protocol and the padding.
 #[repr(C)]
-#[derive(Clone, Copy)]
+#[derive(Clone, Copy, Default)]
 pub struct NextProtocolTold {
     pub protocol: u8,
     pub padding: u8,
@@ -164,12 +143,11 @@ pub extern "C" fn norrabist_parse_tls_handshake_next_protocol(i: &[u8]) -> NextP
     ensures { result ≡ protocol_told (reading next_protocol i.now) }
 {
     match read_others::next_protocol::parse_tls_handshake_next_protocol(i) {
-        NextProtocolAnswer::Refused(r) => NextProtocolTold {
-            protocol: 0,
-            padding: 0,
+        Err(r) => NextProtocolTold {
             number: refusal::refusal_number(r),
+            ..Default::default()
         },
-        NextProtocolAnswer::Got(c) => NextProtocolTold {
+        Ok(c) => NextProtocolTold {
             protocol: c.selected_protocol.len as u8,
             padding: c.padding.len as u8,
             number: 0,
@@ -179,7 +157,7 @@ pub extern "C" fn norrabist_parse_tls_handshake_next_protocol(i: &[u8]) -> NextP
 
 // What is told of a KeyUpdate's body: its one byte.
 #[repr(C)]
-#[derive(Clone, Copy)]
+#[derive(Clone, Copy, Default)]
 pub struct KeyUpdateTold {
     pub request: u8,
     pub number: u8,
@@ -191,11 +169,11 @@ pub extern "C" fn norrabist_parse_tls_handshake_msg_key_update(i: &[u8]) -> KeyU
     ensures { result ≡ key_told (number_at 1 i.now 0) }
 {
     match wire::number::parse_be(i, 0, Width::One) {
-        NumberAnswer::Refused(r) => KeyUpdateTold {
-            request: 0,
+        Err(r) => KeyUpdateTold {
             number: refusal::refusal_number(r),
+            ..Default::default()
         },
-        NumberAnswer::Got(n) => KeyUpdateTold {
+        Ok(n) => KeyUpdateTold {
             request: n.value as u8,
             number: 0,
         },
@@ -207,8 +185,5 @@ pub extern "C" fn norrabist_parse_tls_handshake_msg_key_update(i: &[u8]) -> KeyU
 pub extern "C" fn norrabist_take_body(i: &[u8], len: usize) -> u8
     ensures { result ≡ number_in (step (fixed len) i.now 0) }
 {
-    match field::take(i, 0, len) {
-        PartAnswer::Refused(r) => refusal::refusal_number(r),
-        PartAnswer::Got(_) => 0,
-    }
+    answer_number(field::take(i, 0, len))
 }

@@ -5,23 +5,19 @@ ghost use Rattle.content.specs.Contents.{alert_at, cipher_spec_at, heartbeat_in}
 ghost use Rattle.norrabist_c.specs.Contents.{alert_told, heartbeat_told};
 ghost use Rattle.refusal.specs.Answers.{number_in};
 
-use content::{AlertAnswer, HeartbeatAnswer};
-use wire::number::NumberAnswer;
+use crate::refusals::answer_number;
 
 // Reads a ChangeCipherSpec, one byte: 0, or the refusal's number.
 #[unsafe(no_mangle)]
 pub extern "C" fn norrabist_parse_tls_message_changecipherspec(i: &[u8]) -> u8
     ensures { result ≡ number_in (cipher_spec_at i.now 0) }
 {
-    match content::change_cipher_spec_at(i, 0) {
-        NumberAnswer::Refused(r) => refusal::refusal_number(r),
-        NumberAnswer::Got(_) => 0,
-    }
+    answer_number(content::change_cipher_spec_at(i, 0))
 }
 
 // What is told of an alert, which has two bytes.
 #[repr(C)]
-#[derive(Clone, Copy)]
+#[derive(Clone, Copy, Default)]
 pub struct AlertTold {
     pub severity: u8,
     pub code: u8,
@@ -34,12 +30,11 @@ pub extern "C" fn norrabist_parse_tls_message_alert(i: &[u8]) -> AlertTold
     ensures { result ≡ alert_told (alert_at i.now 0) }
 {
     match content::alert_at(i, 0) {
-        AlertAnswer::Refused(r) => AlertTold {
-            severity: 0,
-            code: 0,
+        Err(r) => AlertTold {
             number: refusal::refusal_number(r),
+            ..Default::default()
         },
-        AlertAnswer::Got(a) => AlertTold {
+        Ok(a) => AlertTold {
             severity: a.severity,
             code: a.code,
             number: 0,
@@ -50,7 +45,7 @@ pub extern "C" fn norrabist_parse_tls_message_alert(i: &[u8]) -> AlertTold
 // What is told of a heartbeat: the length of the payload, which begins at byte 3, and the type. The
 // padding is what stands behind the payload.
 #[repr(C)]
-#[derive(Clone, Copy)]
+#[derive(Clone, Copy, Default)]
 pub struct HeartbeatTold {
     pub payload: u16,
     pub heartbeat_type: u8,
@@ -63,12 +58,11 @@ pub extern "C" fn norrabist_parse_tls_message_heartbeat(i: &[u8], len: u16) -> H
     ensures { result ≡ heartbeat_told (heartbeat_in len i.now) }
 {
     match content::take_heartbeat(i, len) {
-        HeartbeatAnswer::Refused(r) => HeartbeatTold {
-            payload: 0,
-            heartbeat_type: 0,
+        Err(r) => HeartbeatTold {
             number: refusal::refusal_number(r),
+            ..Default::default()
         },
-        HeartbeatAnswer::Got(h) => HeartbeatTold {
+        Ok(h) => HeartbeatTold {
             payload: h.payload_len,
             heartbeat_type: h.heartbeat_type,
             number: 0,

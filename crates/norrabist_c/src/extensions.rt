@@ -7,8 +7,7 @@ ghost use Rattle.norrabist_c.specs.Extensions.{extension_told, extensions_told, 
 ghost use Rattle.norrabist_c.specs.Writers.{wrote_told};
 
 use crate::writers::Wrote;
-use list::tagged::TaggedAnswer;
-use read_ext::{TlsExtensionAnswer, TlsExtensionsAnswer};
+use read_ext::{Damage, NotHad, TlsExtensionFound};
 
 // What is told of a block: how many items can be had from its front, and the table's number. Where
 // the number is 0, these are all its extensions; where it is LengthValue, the first bad item has
@@ -26,18 +25,18 @@ pub extern "C" fn norrabist_parse_tls_extensions(block: &[u8]) -> ExtensionsTold
     ensures { result ≡ extensions_told (extensions block.now) }
 {
     match read_ext::parse_tls_extensions(block) {
-        TlsExtensionsAnswer::Damaged(d) => ExtensionsTold {
+        Err(d) => ExtensionsTold {
             items: d.index,
             number: refusal::refusal_number(d.refusal),
         },
-        TlsExtensionsAnswer::Got(items) => ExtensionsTold { items, number: 0 },
+        Ok(items) => ExtensionsTold { items, number: 0 },
     }
 }
 
 // What is told of an extension: its type, and where its content begins and how long it is. The next
 // one begins where the content ends.
 #[repr(C)]
-#[derive(Clone, Copy)]
+#[derive(Clone, Copy, Default)]
 pub struct ExtensionTold {
     pub start: usize,
     pub ext_type: u16,
@@ -46,24 +45,16 @@ pub struct ExtensionTold {
 }
 
 // What is told of the answer for an extension.
-fn told_of(answer: TlsExtensionAnswer) -> ExtensionTold
+fn told_of(answer: Result<TlsExtensionFound, NotHad>) -> ExtensionTold
     requires { Tellable answer }
     ensures { result ≡ extension_told (extension_says answer) }
 {
     match answer {
-        TlsExtensionAnswer::Damaged(d) => ExtensionTold {
-            start: 0,
-            ext_type: 0,
-            len: 0,
-            number: refusal::refusal_number(d.refusal),
+        Err(NotHad::Damaged(Damage { refusal, .. }) | NotHad::Refused(refusal)) => ExtensionTold {
+            number: refusal::refusal_number(refusal),
+            ..Default::default()
         },
-        TlsExtensionAnswer::Refused(r) => ExtensionTold {
-            start: 0,
-            ext_type: 0,
-            len: 0,
-            number: refusal::refusal_number(r),
-        },
-        TlsExtensionAnswer::Got(x) => ExtensionTold {
+        Ok(x) => ExtensionTold {
             start: x.content.start,
             ext_type: x.ext_type,
             len: x.content.len as u16,
@@ -93,7 +84,7 @@ pub extern "C" fn norrabist_extension_at(block: &[u8], place: usize) -> Extensio
 // What is told of a server name: where it begins in the list, its length and its type. The next
 // one begins where it ends.
 #[repr(C)]
-#[derive(Clone, Copy)]
+#[derive(Clone, Copy, Default)]
 pub struct ServerNameTold {
     pub start: usize,
     pub len: u16,
@@ -107,13 +98,11 @@ pub extern "C" fn norrabist_server_name_from(list: &[u8], at: usize) -> ServerNa
     ensures { result ≡ name_told (name_from list.now at) }
 {
     match read_ext::names::name_from(list, at) {
-        TaggedAnswer::Refused(r) => ServerNameTold {
-            start: 0,
-            len: 0,
-            name_type: 0,
+        Err(r) => ServerNameTold {
             number: refusal::refusal_number(r),
+            ..Default::default()
         },
-        TaggedAnswer::Got(x) => ServerNameTold {
+        Ok(x) => ServerNameTold {
             start: x.view.start,
             len: x.view.len as u16,
             name_type: x.tag as u8,

@@ -1,5 +1,7 @@
 // The bodies of hellos, told by the lengths of their parts: where each begins follows from those
 // before it (`specs/Back.antt`).
+#![tactic(auto, unfolding(grammar::specs::Forms::by_version, open_hellos::specs::HelloMessages::server_message))]
+
 ghost use Rattle.std.specs.Prelude.{◌≡◌};
 ghost use Rattle.grammar.specs.Forms.{by_version, reading};
 ghost use Rattle.norrabist_c.specs.Hellos.{ClientFits, client_told, draft18_told, retry_told, server_message_told, server_told};
@@ -9,18 +11,15 @@ ghost use Rattle.read_others.specs.Body.{retry};
 ghost use Rattle.read_server.specs.Server.{draft18, server, server_versions};
 ghost use Rattle.refusal.specs.Answers.{accepted, refused};
 
-use crate::parts::opt_told;
-use read_client::{ClientHelloAnswer, TlsClientHelloContents};
-use read_others::retry::HelloRetryRequestAnswer;
-use read_server::tlsv12::ServerHelloAnswer;
-use read_server::tlsv13draft18::Draft18Answer;
+use crate::parts::len_of;
+use read_client::TlsClientHelloContents;
 use refusal::{Reason, Refusal};
-use wire::number::{NumberAnswer, Width};
+use wire::number::Width;
 
 // What is told of a ClientHello's body: the version, and the lengths of the id, ciphers, methods
 // and extensions.
 #[repr(C)]
-#[derive(Clone, Copy)]
+#[derive(Clone, Copy, Default)]
 pub struct ClientHelloTold {
     pub version: u16,
     pub ciphers: u16,
@@ -35,13 +34,8 @@ fn client_refused(r: Refusal) -> ClientHelloTold
     ensures { result ≡ client_told (refused r) }
 {
     ClientHelloTold {
-        version: 0,
-        ciphers: 0,
-        ext: 0,
-        comp: 0,
-        session_id: 0,
-        has_ext: false,
         number: refusal::refusal_number(r),
+        ..Default::default()
     }
 }
 
@@ -50,17 +44,13 @@ fn client_told(c: TlsClientHelloContents) -> ClientHelloTold
     requires { ClientFits c }
     ensures { result ≡ client_told (accepted c) }
 {
-    let id_view = c.session_id;
-    let ext_view = c.ext;
-    let id = opt_told(id_view);
-    let ext = opt_told(ext_view);
     ClientHelloTold {
         version: c.version,
         ciphers: c.ciphers.len as u16,
-        ext: ext.len as u16,
+        ext: len_of(c.ext) as u16,
         comp: c.comp.len as u8,
-        session_id: id.len as u8,
-        has_ext: ext.present,
+        session_id: len_of(c.session_id) as u8,
+        has_ext: c.ext.is_some(),
         number: 0,
     }
 }
@@ -71,26 +61,27 @@ pub extern "C" fn norrabist_parse_tls_handshake_client_hello(i: &[u8]) -> Client
     ensures { result ≡ client_told (reading client i.now) }
 {
     match read_client::parse_tls_handshake_client_hello(i) {
-        ClientHelloAnswer::Refused(r) => client_refused(r),
-        ClientHelloAnswer::Got(c) => client_told(c),
+        Err(r) => client_refused(r),
+        Ok(c) => client_told(c),
     }
 }
 
 // Reads the body of a ClientHello that matches exactly.
+// stays: two exports of C, each with its reader
 #[unsafe(no_mangle)]
 pub extern "C" fn norrabist_parse_tls_handshake_client_hello_strict(i: &[u8]) -> ClientHelloTold
     ensures { result ≡ client_told (strict_client i.now) }
 {
     match read_client::parse_tls_handshake_client_hello_strict(i) {
-        ClientHelloAnswer::Refused(why) => client_refused(why),
-        ClientHelloAnswer::Got(exact) => client_told(exact),
+        Err(why) => client_refused(why),
+        Ok(exact) => client_told(exact),
     }
 }
 
 // What is told of a ServerHello's body: version, cipher and method, and the lengths of the id and
 // the extensions. That of draft 18 has neither id nor method.
 #[repr(C)]
-#[derive(Clone, Copy)]
+#[derive(Clone, Copy, Default)]
 pub struct ServerHelloTold {
     pub version: u16,
     pub cipher: u16,
@@ -105,13 +96,8 @@ fn server_refused(r: Refusal) -> ServerHelloTold
     ensures { result ≡ server_told (refused r) }
 {
     ServerHelloTold {
-        version: 0,
-        cipher: 0,
-        ext: 0,
-        compression: 0,
-        session_id: 0,
-        has_ext: false,
         number: refusal::refusal_number(r),
+        ..Default::default()
     }
 }
 
@@ -120,22 +106,16 @@ fn server_told(i: &[u8], has_ext: bool) -> ServerHelloTold
     ensures { result ≡ server_told (reading (server has_ext) i.now) }
 {
     match read_server::tlsv12::parse_tls_server_hello_tlsv12(i, has_ext) {
-        ServerHelloAnswer::Refused(r) => server_refused(r),
-        ServerHelloAnswer::Got(s) => {
-            let id_view = s.session_id;
-            let ext_view = s.ext;
-            let id = opt_told(id_view);
-            let ext = opt_told(ext_view);
-            ServerHelloTold {
-                version: s.version,
-                cipher: s.cipher,
-                ext: ext.len as u16,
-                compression: s.compression,
-                session_id: id.len as u8,
-                has_ext: ext.present,
-                number: 0,
-            }
-        }
+        Err(r) => server_refused(r),
+        Ok(s) => ServerHelloTold {
+            version: s.version,
+            cipher: s.cipher,
+            ext: len_of(s.ext) as u16,
+            compression: s.compression,
+            session_id: len_of(s.session_id) as u8,
+            has_ext: s.ext.is_some(),
+            number: 0,
+        },
     }
 }
 
@@ -145,19 +125,12 @@ fn server_told(i: &[u8], has_ext: bool) -> ServerHelloTold
 pub extern "C" fn norrabist_parse_tls_handshake_server_hello(i: &[u8]) -> ServerHelloTold
     ensures { result ≡ server_told (by_version server_versions i.now) }
 {
-    let announced = match wire::number::parse_be(i, 0, Width::Two) {
-        NumberAnswer::Refused(r) => {
-            return server_refused(r);
-        }
-        NumberAnswer::Got(n) => n,
+    let v = match wire::number::parse_be(i, 0, Width::Two) {
+        Err(r) => return server_refused(r),
+        Ok(n) => n.value,
     };
-    let v = announced.value;
-    let unlisted = refusal::refuse(Reason::Tag, 0, 0);
-    if v < registry::version::SSL30 {
-        return server_refused(unlisted);
-    }
-    if registry::version::TLS12 < v {
-        return server_refused(unlisted);
+    if v < registry::version::SSL30 || registry::version::TLS12 < v {
+        return server_refused(refusal::refuse(Reason::Tag, 0, 0));
     }
     server_told(i, registry::version::SSL30 < v)
 }
@@ -167,20 +140,14 @@ fn draft18_told(i: &[u8]) -> ServerHelloTold
     ensures { result ≡ draft18_told (reading draft18 i.now) }
 {
     match read_server::tlsv13draft18::parse_tls_server_hello_tlsv13draft18(i) {
-        Draft18Answer::Refused(r) => server_refused(r),
-        Draft18Answer::Got(d) => {
-            let ext_view = d.ext;
-            let ext = opt_told(ext_view);
-            ServerHelloTold {
-                version: d.version,
-                cipher: d.cipher,
-                ext: ext.len as u16,
-                compression: 0,
-                session_id: 0,
-                has_ext: ext.present,
-                number: 0,
-            }
-        }
+        Err(r) => server_refused(r),
+        Ok(d) => ServerHelloTold {
+            version: d.version,
+            cipher: d.cipher,
+            ext: len_of(d.ext) as u16,
+            has_ext: d.ext.is_some(),
+            ..Default::default()
+        },
     }
 }
 
@@ -190,12 +157,10 @@ pub extern "C" fn norrabist_parse_tls_handshake_msg_server_hello(i: &[u8]) -> Se
     ensures { result ≡ server_message_told (server_message i.now) }
 {
     let version = match wire::number::parse_be(i, 0, Width::Two) {
-        NumberAnswer::Refused(r) => {
-            return server_refused(r);
-        }
-        NumberAnswer::Got(n) => n,
+        Err(r) => return server_refused(r),
+        Ok(n) => n.value,
     };
-    if version.value == registry::version::TLS13_DRAFT18 {
+    if version == registry::version::TLS13_DRAFT18 {
         return draft18_told(i);
     }
     norrabist_parse_tls_handshake_server_hello(i)
@@ -203,7 +168,7 @@ pub extern "C" fn norrabist_parse_tls_handshake_msg_server_hello(i: &[u8]) -> Se
 
 // What is told of a HelloRetryRequest's body: version, cipher and the length of the extensions.
 #[repr(C)]
-#[derive(Clone, Copy)]
+#[derive(Clone, Copy, Default)]
 pub struct HelloRetryRequestTold {
     pub version: u16,
     pub cipher: u16,
@@ -220,23 +185,16 @@ pub extern "C" fn norrabist_parse_tls_handshake_msg_hello_retry_request(
     ensures { result ≡ retry_told (reading retry i.now) }
 {
     match read_others::retry::parse_tls_hello_retry_request(i) {
-        HelloRetryRequestAnswer::Refused(r) => HelloRetryRequestTold {
-            version: 0,
-            cipher: 0,
-            ext: 0,
-            has_ext: false,
+        Err(r) => HelloRetryRequestTold {
             number: refusal::refusal_number(r),
+            ..Default::default()
         },
-        HelloRetryRequestAnswer::Got(h) => {
-            let ext_view = h.ext;
-            let ext = opt_told(ext_view);
-            HelloRetryRequestTold {
-                version: h.version,
-                cipher: h.cipher,
-                ext: ext.len as u16,
-                has_ext: ext.present,
-                number: 0,
-            }
-        }
+        Ok(h) => HelloRetryRequestTold {
+            version: h.version,
+            cipher: h.cipher,
+            ext: len_of(h.ext) as u16,
+            has_ext: h.ext.is_some(),
+            number: 0,
+        },
     }
 }

@@ -1,59 +1,57 @@
 // Messages: their heads, and how many there are.
+#![tactic(auto, unfolding(crate::specs::Heads::is_listed, crate::specs::Heads::listed_head))]
+
 ghost use Rattle.std.specs.Prelude.{◌≡◌};
-ghost use Rattle.envelope.specs.Opening.{head_says};
 ghost use Rattle.content_walk.specs.ContentWalks.{messages_of};
 ghost use Rattle.norrabist_c.specs.Heads.{contents_told, head_told, is_listed, listed_head, tally_told};
 ghost use Rattle.record_walk.specs.Walks.{messages_from};
+ghost use Rattle.refusal.specs.Answers.{as_answer};
 
-use envelope::HeadAnswer;
-use refusal::Reason;
+use envelope::TlsMessageHead;
+use refusal::{Reason, Refusal};
 use registry::handshake;
 
 // Whether a body of this type is opened.
 fn is_listed(msg_type: u8) -> bool
     ensures { result ≡ is_listed msg_type }
 {
-    match msg_type {
+    matches!(
+        msg_type,
         handshake::HELLO_REQUEST
-        | handshake::CLIENT_HELLO
-        | handshake::SERVER_HELLO
-        | handshake::NEW_SESSION_TICKET
-        | handshake::END_OF_EARLY_DATA
-        | handshake::HELLO_RETRY_REQUEST
-        | handshake::CERTIFICATE
-        | handshake::SERVER_KEY_EXCHANGE
-        | handshake::CERTIFICATE_REQUEST
-        | handshake::SERVER_DONE
-        | handshake::CERTIFICATE_VERIFY
-        | handshake::CLIENT_KEY_EXCHANGE
-        | handshake::FINISHED
-        | handshake::CERTIFICATE_STATUS
-        | handshake::KEY_UPDATE
-        | handshake::NEXT_PROTOCOL => true,
-        _ => false,
-    }
+            | handshake::CLIENT_HELLO
+            | handshake::SERVER_HELLO
+            | handshake::NEW_SESSION_TICKET
+            | handshake::END_OF_EARLY_DATA
+            | handshake::HELLO_RETRY_REQUEST
+            | handshake::CERTIFICATE
+            | handshake::SERVER_KEY_EXCHANGE
+            | handshake::CERTIFICATE_REQUEST
+            | handshake::SERVER_DONE
+            | handshake::CERTIFICATE_VERIFY
+            | handshake::CLIENT_KEY_EXCHANGE
+            | handshake::FINISHED
+            | handshake::CERTIFICATE_STATUS
+            | handshake::KEY_UPDATE
+            | handshake::NEXT_PROTOCOL
+    )
 }
 
 // The head of the message that begins at `at`, where its type is listed: else Switch.
-pub fn listed_head(s: &[u8], at: usize) -> HeadAnswer
-    ensures { head_says result ≡ listed_head s.now at }
+pub fn listed_head(s: &[u8], at: usize) -> Result<TlsMessageHead, Refusal>
+    ensures { as_answer result ≡ listed_head s.now at }
 {
-    match envelope::parse_tls_message_head(s, at) {
-        HeadAnswer::Refused(r) => HeadAnswer::Refused(r),
-        HeadAnswer::Got(h) => {
-            if is_listed(h.msg_type) {
-                HeadAnswer::Got(h)
-            } else {
-                HeadAnswer::Refused(refusal::refuse(Reason::Switch, at, 0))
-            }
-        }
+    let h = envelope::parse_tls_message_head(s, at)?;
+    if is_listed(h.msg_type) {
+        Ok(h)
+    } else {
+        Err(refusal::refuse(Reason::Switch, at, 0))
     }
 }
 
 // What is told of a message's head: where the next message begins, the length of the body, which
 // ends there, and the type.
 #[repr(C)]
-#[derive(Clone, Copy)]
+#[derive(Clone, Copy, Default)]
 pub struct MessageHeadTold {
     pub next: usize,
     pub body: u32,
@@ -68,13 +66,11 @@ pub extern "C" fn norrabist_parse_tls_message_head(s: &[u8], at: usize) -> Messa
     ensures { result ≡ head_told (listed_head s.now at) }
 {
     match listed_head(s, at) {
-        HeadAnswer::Refused(r) => MessageHeadTold {
-            next: 0,
-            body: 0,
-            msg_type: 0,
+        Err(r) => MessageHeadTold {
             number: refusal::refusal_number(r),
+            ..Default::default()
         },
-        HeadAnswer::Got(h) => MessageHeadTold {
+        Ok(h) => MessageHeadTold {
             next: h.next,
             body: h.body.len as u32,
             msg_type: h.msg_type,

@@ -1,20 +1,22 @@
 // The writers that C and Rust link. Each part is a slice of its own, and no byte is copied before
 // every length is checked; an empty slice serves for an id or extensions that are absent. A refusal
 // changes no byte.
+#![tactic(auto, unfolding(refusal::specs::Refusals::unplaced))]
+
 ghost use Rattle.std.specs.Prelude.{◌≡◌};
 ghost use Rattle.norrabist_c.specs.Writers.{exchange_slice_text, finished_text, header_of, kind_told, request_text, wrote_told};
-ghost use Rattle.refusal.specs.Answers.{number_in};
-ghost use Rattle.wire.specs.Puts.{written, write_says};
+ghost use Rattle.refusal.specs.Answers.{number_in, as_answer};
+ghost use Rattle.wire.specs.Puts.{written};
 ghost use Rattle.write_client.specs.Slices.{client_text};
 ghost use Rattle.write_content.specs.ContentTexts.{alert_text, cipher_spec_text};
 ghost use Rattle.write_draft18.specs.Slices.{draft18_text};
 ghost use Rattle.write_record.specs.RecordTexts.{record_text};
 ghost use Rattle.write_server.specs.Slices.{server_text};
 
+use crate::refusals::answer_number;
 use message::handshake;
 use record::TlsRecordHeader;
 use refusal::Reason;
-use wire::output::WriteAnswer;
 use write_rules::TextAnswer;
 
 // Holds the table's number (RULES 1.1), and how many bytes the text has: those that were written,
@@ -28,18 +30,11 @@ pub struct Wrote {
 
 // What is told of what writing a text came to.
 pub fn told(text: TextAnswer) -> Wrote
-    ensures { result ≡ record { count = text.len; number = number_in (write_says text.answer) } }
+    ensures { result ≡ record { count = text.len; number = number_in (as_answer text.answer) } }
 {
-    let answer = text.answer;
-    match answer {
-        WriteAnswer::Refused(r) => Wrote {
-            count: text.len,
-            number: refusal::refusal_number(r),
-        },
-        WriteAnswer::Wrote(_) => Wrote {
-            count: text.len,
-            number: 0,
-        },
+    Wrote {
+        count: text.len,
+        number: answer_number(text.answer),
     }
 }
 

@@ -18,6 +18,7 @@ pub extern "C" fn norrabist_parse_tls_handshake_client_hello(i: &[u8]) -> Client
 }
 
 // Reads the body of a ClientHello that matches exactly.
+// stays: two exports of C, each with its reader
 #[unsafe(no_mangle)]
 pub extern "C" fn norrabist_parse_tls_handshake_client_hello_strict(i: &[u8]) -> ClientHelloTold
     ensures { result ≡ client_told (strict_client i.now) }

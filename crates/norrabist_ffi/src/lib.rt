@@ -1,5 +1,6 @@
 // What C and Rust link, as a static library: each export calls the function of the same name in
 // `norrabist_c`, and promises the same. `rust/norrabist.h` declares them. Made by ./papers --write.
+// stays: every export is a function of its own; numbers and flags are the C interface.
 #![tactic(auto)]
 
 pub mod bodies;

@@ -1,22 +1,14 @@
 -- Each body that speaks of certificates is accepted exactly when it splits by its grammar,
 -- instances of the one theorem; and equal numbers and values mean equal answers. Assumes nothing.
 use Prim.Native.Nat.{ℕ}
-use mathlib.Core.Path.{◌≡◌, refl}
+use mathlib.Core.Path.{refl}
 use mathlib.Core.Bool.{Bool, true, false}
 use mathlib.Core.List.{List}
-use Rattle.refusal.specs.Answers.{Answer, accepted, refused, OneResult}
-use Rattle.refusal.proofs.Told.{tells_all}
 use Rattle.wire.specs.Numbers.{Bytes}
 use Rattle.grammar.specs.Demand3.{BySplit, Lawful}
 use Rattle.grammar.proofs.Forms.{by_split}
-use Rattle.read_certs.specs.Certs.{certificate, certificate_says, request, certificate_request, request_says}
-use Rattle.read_certs.specs.Certs.{status, status_says, OfRequest}
-use Rattle.read_certs.specs.declared.certificate.TlsCertificateContents.{TlsCertificateContents}
-use Rattle.read_certs.specs.declared.certificate.CertificateAnswer.{CertificateAnswer}
-use Rattle.read_certs.specs.declared.request.TlsCertificateRequestContents.{TlsCertificateRequestContents}
-use Rattle.read_certs.specs.declared.request.CertificateRequestAnswer.{CertificateRequestAnswer}
-use Rattle.read_certs.specs.declared.status.TlsCertificateStatusContents.{TlsCertificateStatusContents}
-use Rattle.read_certs.specs.declared.status.CertificateStatusAnswer.{CertificateStatusAnswer}
+use Rattle.read_certs.specs.Certs.{certificate, request, certificate_request}
+use Rattle.read_certs.specs.Certs.{status, OfRequest}
 
 certificate_lawful : Lawful certificate
 certificate_lawful = record { suits = (tt, tt); handed = λ o e t. refl; block = λ o e t. refl; tail = λ o e t. refl }
@@ -48,36 +40,3 @@ of_request_lem s b =
       as_short = λ r f x y. rw (l.refuses r f, h.accepts x y);
       neither = λ r t f g. rw (l.refuses r f, h.refuses t g);
     }
-
-abbrev certificate_back : Answer TlsCertificateContents → CertificateAnswer
-certificate_back (accepted a) = CertificateAnswer.Got a
-certificate_back (refused r) = CertificateAnswer.Refused r
-
-certificate_home : (a : CertificateAnswer) → certificate_back (certificate_says a) ≡ a
-certificate_home (CertificateAnswer.Refused r) = refl
-certificate_home (CertificateAnswer.Got a) = refl
-
-pub one_certificate_lem : OneResult certificate_says
-one_certificate_lem = tells_all certificate_says certificate_back certificate_home
-
-abbrev request_back : Answer TlsCertificateRequestContents → CertificateRequestAnswer
-request_back (accepted a) = CertificateRequestAnswer.Got a
-request_back (refused r) = CertificateRequestAnswer.Refused r
-
-request_home : (a : CertificateRequestAnswer) → request_back (request_says a) ≡ a
-request_home (CertificateRequestAnswer.Refused r) = refl
-request_home (CertificateRequestAnswer.Got a) = refl
-
-pub one_request_lem : OneResult request_says
-one_request_lem = tells_all request_says request_back request_home
-
-abbrev status_back : Answer TlsCertificateStatusContents → CertificateStatusAnswer
-status_back (accepted a) = CertificateStatusAnswer.Got a
-status_back (refused r) = CertificateStatusAnswer.Refused r
-
-status_home : (a : CertificateStatusAnswer) → status_back (status_says a) ≡ a
-status_home (CertificateStatusAnswer.Refused r) = refl
-status_home (CertificateStatusAnswer.Got a) = refl
-
-pub one_status_lem : OneResult status_says
-one_status_lem = tells_all status_says status_back status_home

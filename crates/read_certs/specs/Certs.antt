@@ -2,10 +2,10 @@
 -- RULES 4.4, 4.7 to 4.10; RFC 5246 7.4.2, 7.4.4, RFC 6066 8.
 use Rattle.std.specs.Prelude.{◌≡◌, ◌∷◌}
 use Rattle.refusal.specs.{ℕ, Bool, true, false, List, [], none, refusal, Answer, accepted, refused, or_else, Complete, Refusal}
-use Rattle.wire.specs.{pick, Absent}
+use Rattle.wire.specs.{pick, None}
 use Rattle.field.specs.{fixed, sized}
 use Rattle.grammar.specs.{as_view, as_opt, as_number, Pieces, Split, handed_of, FirstLacks, Form, value_of, reading}
-use Rattle.read_certs.specs.declared.{certificate.CertificateAnswer.CertificateAnswer, certificate.TlsCertificateContents.TlsCertificateContents, request.CertificateRequestAnswer.CertificateRequestAnswer, request.TlsCertificateRequestContents.TlsCertificateRequestContents, status.CertificateStatusAnswer.CertificateStatusAnswer, status.TlsCertificateStatusContents.TlsCertificateStatusContents}
+use Rattle.read_certs.specs.declared.{certificate.TlsCertificateContents.TlsCertificateContents, request.TlsCertificateRequestContents.TlsCertificateRequestContents, status.TlsCertificateStatusContents.TlsCertificateStatusContents}
 
 -- RULES 4.4: Certificate, its list the items `sized 3` of the part; RFC 5246 7.4.2
 abbrev pub certificate : Form TlsCertificateContents
@@ -13,7 +13,7 @@ certificate = record {
   grammar = record { rows = (sized 3, as_view) ∷ []; block = none };
   value = λ (chain, _) e t. record { cert_chain = chain; tail = t };
   handed = λ c. (c.cert_chain, tt);
-  block = λ c. Absent;
+  block = λ c. None;
   tail = λ c. c.tail;
 }
 
@@ -23,7 +23,7 @@ status = record {
   grammar = record { rows = (fixed 1, as_number 1) ∷ (sized 3, as_view) ∷ []; block = none };
   value = λ (k, (b, _)) e t. record { status_type = k; blob = b; tail = t };
   handed = λ c. (c.status_type, (c.blob, tt));
-  block = λ c. Absent;
+  block = λ c. None;
   tail = λ c. c.tail;
 }
 
@@ -35,7 +35,7 @@ request long = record {
   grammar = record { rows = (sized 1, as_view) ∷ (pick long (sized 2) (fixed 0), as_opt long) ∷ (sized 2, as_view) ∷ []; block = none };
   value = λ (types, (pairs, (names, _))) e t. record { cert_types = types; sig_hash_algs = pairs; unparsed_ca = names; tail = t };
   handed = λ c. (c.cert_types, (c.sig_hash_algs, (c.unparsed_ca, tt)));
-  block = λ c. Absent;
+  block = λ c. None;
   tail = λ c. c.tail;
 }
 
@@ -49,15 +49,3 @@ pub record OfRequest (body : List ℕ) : Type 0 where
   pub as_long : (x : Pieces (request true).grammar) → Split (request true).grammar body x → certificate_request body ≡ accepted (value_of (request true) body (handed_of (request true).grammar x))
   pub as_short : (r : Refusal) → FirstLacks (request true).grammar.rows 0 body r → (x : Pieces (request false).grammar) → Split (request false).grammar body x → certificate_request body ≡ accepted (value_of (request false) body (handed_of (request false).grammar x))
   pub neither : (r t : Refusal) → FirstLacks (request true).grammar.rows 0 body r → FirstLacks (request false).grammar.rows 0 body t → certificate_request body ≡ refused (refusal Complete 0 0)
-
-abbrev pub certificate_says : CertificateAnswer → Answer TlsCertificateContents
-certificate_says (CertificateAnswer.Refused r) = refused r
-certificate_says (CertificateAnswer.Got c) = accepted c
-
-abbrev pub request_says : CertificateRequestAnswer → Answer TlsCertificateRequestContents
-request_says (CertificateRequestAnswer.Refused r) = refused r
-request_says (CertificateRequestAnswer.Got c) = accepted c
-
-abbrev pub status_says : CertificateStatusAnswer → Answer TlsCertificateStatusContents
-status_says (CertificateStatusAnswer.Refused r) = refused r
-status_says (CertificateStatusAnswer.Got c) = accepted c

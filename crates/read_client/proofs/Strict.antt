@@ -9,9 +9,12 @@ use native.Mathlib.Omega.{arith}
 use borrow.Author.Tests.{eq-eqb, ne_eqb, leb-true, leb-false}
 use lib.ListN.{length, drop, length-drop}
 use lib.Dec.{leb, eqb}
-use Rattle.refusal.specs.Answers.{accepted, refused}
+use Rattle.std.specs.Prelude.{Result, Ok}
+use Rattle.refusal.specs.Answers.{accepted, refused, as_answer}
 use Rattle.refusal.specs.Refusals.{refusal}
 use Rattle.refusal.specs.declared.Reason.TheVariants.{LengthValue}
+use Rattle.refusal.specs.declared.Refusal.{Refusal}
+use Rattle.refusal.proofs.Told.{case}
 use Rattle.wire.specs.Numbers.{Bytes}
 use Rattle.wire.specs.Parts.{if_some, part_of}
 use Rattle.grammar.specs.Splits.{views_of}
@@ -22,7 +25,7 @@ use Rattle.grammar.proofs.Forms.{made_of}
 use Rattle.grammar.proofs.Strict.{by_exact_split, from_plain_lem}
 use Rattle.read_client.specs.Client.{client, strict_client, exactness, fails_at, held_to, TellsExactness}
 use Rattle.read_client.specs.declared.TlsClientHelloContents.{TlsClientHelloContents}
-use Rattle.read_client.specs.declared.Exactness.{Exactness}
+use Rattle.read_client.specs.declared.Inexact.{Inexact}
 use Rattle.read_client.proofs.Whole.{client_lawful, demand3}
 
 pub strict_demand3 : (body : List ℕ) → Bytes body → ByExactSplit client client_to_fill body
@@ -81,7 +84,10 @@ tells_exactness s b c e =
       place = p;
     }
 
--- and by each case of it
-pub by_case : (s : List ℕ) → Bytes s → (c : TlsClientHelloContents) → reading client s ≡ accepted c
-    → {e : Exactness} → exactness s c ≡ e → strict_client s ≡ held_to e c
-by_case s b c r q = (tells_exactness s b c r).answer ∙ ap (λ (e : Exactness). held_to e c) q
+-- and by each case of it, of what a reader has
+pub by_case : (s : List ℕ) → Bytes s → {a : Result TlsClientHelloContents Refusal} {c : TlsClientHelloContents}
+    → as_answer a ≡ reading client s → a ≡ Ok c → {e d : Result Unit Inexact} → e ≡ exactness s c → e ≡ d
+    → held_to d c ≡ strict_client s
+by_case s b {c = c} g w e i =
+    sym ((tells_exactness s b c (case as_answer g w)).answer
+    ∙ ap (λ (d : Result Unit Inexact). held_to d c) (sym e ∙ i))

@@ -1,10 +1,10 @@
 -- The ClientHello as a value, the times in its random, and the strict one: RULES 3.2, 3.13 to 3.15;
 -- RFC 5246 7.4.1.2.
-use Rattle.std.specs.Prelude.{◌-◌, ◌≡◌}
+use Rattle.std.specs.Prelude.{◌-◌, ◌≡◌, Result, Ok, Err}
 use Rattle.refusal.specs.{ℕ, List, Option, none, some, length, eqb, leb, refusal, Answer, accepted, refused, LengthValue}
 use Rattle.wire.specs.{pick, if_some, be, part_of}
 use Rattle.grammar.specs.{client_hello, client_to_fill, Form, reading, pieces, inexact, strictly}
-use Rattle.read_client.specs.declared.{ClientHelloAnswer.ClientHelloAnswer, Exactness.Exactness, TlsClientHelloContents.TlsClientHelloContents}
+use Rattle.read_client.specs.declared.{Inexact.Inexact, TlsClientHelloContents.TlsClientHelloContents}
 
 abbrev pub client : Form TlsClientHelloContents
 client = record {
@@ -14,10 +14,6 @@ client = record {
   block = λ c. c.ext;
   tail = λ c. c.tail;
 }
-
-abbrev pub client_says : ClientHelloAnswer → Answer TlsClientHelloContents
-client_says (ClientHelloAnswer.Refused r) = refused r
-client_says (ClientHelloAnswer.Got c) = accepted c
 
 -- RULES 3.13, tls-parser's answer: 0 unless the random has four bytes, since it converts the whole
 -- random to a number of four bytes
@@ -35,22 +31,22 @@ strict_client s = strictly client client_to_fill s
 
 -- RULES 3.15: what keeps a value from being exact, by the bytes that it names: no ciphers before no
 -- methods, and these before a tail
-abbrev pub exactness : List ℕ → TlsClientHelloContents → Exactness
+abbrev pub exactness : List ℕ → TlsClientHelloContents → Result Unit Inexact
 exactness s c =
-    pick (eqb (length (part_of s c.ciphers)) 0) Exactness.NoCiphers
-    (pick (eqb (length (part_of s c.comp)) 0) Exactness.NoMethods
-    (pick (leb (length s) c.tail) Exactness.Exact Exactness.HasTail))
+    pick (eqb (length (part_of s c.ciphers)) 0) (Err Inexact.NoCiphers)
+    (pick (eqb (length (part_of s c.comp)) 0) (Err Inexact.NoMethods)
+    (pick (leb (length s) c.tail) (Ok tt) (Err Inexact.HasTail)))
 
 -- where a value fails: at the length of the list that is empty, two bytes before the ciphers and
 -- one before the methods, or where the tail begins
-abbrev pub fails_at : Exactness → TlsClientHelloContents → Option ℕ
-fails_at Exactness.Exact c = none
-fails_at Exactness.NoCiphers c = some (c.ciphers.start - 2)
-fails_at Exactness.NoMethods c = some (c.comp.start - 1)
-fails_at Exactness.HasTail c = some c.tail
+abbrev pub fails_at : Result Unit Inexact → TlsClientHelloContents → Option ℕ
+fails_at (Ok u) c = none
+fails_at (Err Inexact.NoCiphers) c = some (c.ciphers.start - 2)
+fails_at (Err Inexact.NoMethods) c = some (c.comp.start - 1)
+fails_at (Err Inexact.HasTail) c = some c.tail
 
 -- the answer for a value: LengthValue where it fails
-abbrev pub held_to : Exactness → TlsClientHelloContents → Answer TlsClientHelloContents
+abbrev pub held_to : Result Unit Inexact → TlsClientHelloContents → Answer TlsClientHelloContents
 held_to e c = if_some (fails_at e c) (λ n. refused (refusal LengthValue n 0)) (accepted c)
 
 -- RULES 3.15: of a hello that was read, the strict reading goes by its exactness, and fails where

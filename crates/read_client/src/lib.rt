@@ -8,117 +8,84 @@ ghost use Rattle.grammar.specs.Demand3.{BySplit};
 ghost use Rattle.grammar.specs.Forms.{reading};
 ghost use Rattle.grammar.specs.Hellos.{client_to_fill};
 ghost use Rattle.grammar.specs.Strict.{ByExactSplit};
-ghost use Rattle.read_client.specs.Client.{client, client_says, exactness, gmt_unix_time, rand_time, strict_client};
+ghost use Rattle.read_client.specs.Client.{client, exactness, gmt_unix_time, rand_time, strict_client};
 ghost use Rattle.list.specs.Items.{items, number_place};
-ghost use Rattle.refusal.specs.Answers.{refused};
+ghost use Rattle.refusal.specs.Answers.{as_answer};
 ghost use Rattle.refusal.specs.Refusals.{refusal};
 ghost use Rattle.refusal.specs.declared.Reason.TheVariants.{LengthValue};
-ghost use Rattle.wire.specs.Numbers.{number_says};
 ghost use Rattle.wire.specs.Parts.{opt_part_of, part_of};
 
 use field::RuleName;
-use read_start::StartAnswer;
 use refusal::{Reason, Refusal};
-use wire::number::{NumberAnswer, Width};
-use wire::view::{OptView, PartAnswer, View};
+use wire::number::{Number, Width};
+use wire::view::View;
 
 // Holds a ClientHello: tls-parser's fields, and where the tail begins.
 #[derive(Clone, Copy)]
 pub struct TlsClientHelloContents {
     pub version: u16,
     pub random: View,
-    pub session_id: OptView,
+    pub session_id: Option<View>,
     pub ciphers: View,
     pub comp: View,
-    pub ext: OptView,
+    pub ext: Option<View>,
     pub tail: usize,
 }
 
-// Holds the contents of a ClientHello, or the refusal.
-#[derive(Clone, Copy)]
-pub enum ClientHelloAnswer {
-    Refused(Refusal),
-    Got(TlsClientHelloContents),
-}
-
-// Whether a ClientHello is exact (RULES 3.14), or the first of the three that keeps it from that.
-#[derive(Clone, Copy)]
-pub enum Exactness {
-    Exact,
+// The first of the three that keeps a ClientHello from being exact (RULES 3.14).
+#[derive(Clone, Copy, Debug, PartialEq, Eq)]
+pub enum Inexact {
     NoCiphers,
     NoMethods,
     HasTail,
 }
 
 // Reads a ClientHello's body field by field, and its extensions where they fit.
-pub fn parse_tls_handshake_client_hello(i: &[u8]) -> ClientHelloAnswer
-    ensures result_value { client_says result ≡ reading client i.now }
+#[tactic(auto, unfolding(grammar::specs::Forms::reading, grammar::specs::Reading::read, grammar::specs::Reading::fields_at))]
+pub fn parse_tls_handshake_client_hello(i: &[u8]) -> Result<TlsClientHelloContents, Refusal>
+    ensures result_value { as_answer result ≡ reading client i.now }
     ensures by_split { BySplit client i.now }
 {
-    let start = match read_start::parse_start(i) {
-        StartAnswer::Refused(r) => {
-            return ClientHelloAnswer::Refused(r);
-        }
-        StartAnswer::Got(s) => s,
-    };
-    let ciphers = match field::length_data(i, start.next, Width::Two, RuleName::Ciphers) {
-        PartAnswer::Refused(r) => {
-            return ClientHelloAnswer::Refused(r);
-        }
-        PartAnswer::Got(p) => p,
-    };
-    let comp = match field::length_data(i, ciphers.next, Width::One, RuleName::Methods) {
-        PartAnswer::Refused(r) => {
-            return ClientHelloAnswer::Refused(r);
-        }
-        PartAnswer::Got(p) => p,
-    };
+    let start = read_start::parse_start(i)?;
+    let ciphers = field::length_data(i, start.next, Width::Two, RuleName::Ciphers)?;
+    let comp = field::length_data(i, ciphers.next, Width::One, RuleName::Methods)?;
     let ext = grammar::opt_length_data(i, comp.next, Width::Two, RuleName::Plain);
-    let random = start.random;
-    let session_id = start.session_id;
-    let list = ciphers.view;
-    let methods = comp.view;
-    let block = ext.view;
-    ClientHelloAnswer::Got(TlsClientHelloContents {
+    Ok(TlsClientHelloContents {
         version: start.version,
-        random,
-        session_id,
-        ciphers: list,
-        comp: methods,
-        ext: block,
+        random: start.random,
+        session_id: start.session_id,
+        ciphers: ciphers.view,
+        comp: comp.view,
+        ext: ext.view,
         tail: ext.next,
     })
 }
 
 // The refusal of a hello that does not match exactly: LengthValue at a place.
-fn inexact(at: usize) -> ClientHelloAnswer
-    ensures { client_says result ≡ refused (refusal LengthValue at 0) }
+fn not_exact(at: usize) -> Refusal
+    ensures { result ≡ refusal LengthValue at 0 }
 {
-    ClientHelloAnswer::Refused(refusal::refuse(Reason::LengthValue, at, 0))
+    refusal::refuse(Reason::LengthValue, at, 0)
 }
 
 // Reads a ClientHello's body as `parse_tls_handshake_client_hello` does, and takes it where it
 // matches RFC 5246 7.4.1.2 exactly: no empty list of ciphers or methods, and no byte behind it.
-pub fn parse_tls_handshake_client_hello_strict(i: &[u8]) -> ClientHelloAnswer
-    ensures result_value { client_says result ≡ strict_client i.now }
+pub fn parse_tls_handshake_client_hello_strict(i: &[u8]) -> Result<TlsClientHelloContents, Refusal>
+    ensures result_value { as_answer result ≡ strict_client i.now }
     ensures by_exact_split { ByExactSplit client client_to_fill i.now }
 {
-    let c = match parse_tls_handshake_client_hello(i) {
-        ClientHelloAnswer::Refused(r) => {
-            return ClientHelloAnswer::Refused(r);
-        }
-        ClientHelloAnswer::Got(c) => c,
-    };
+    let c = parse_tls_handshake_client_hello(i)?;
     match c.exactness(i) {
-        Exactness::Exact => ClientHelloAnswer::Got(c),
-        Exactness::NoCiphers => inexact(c.ciphers.start - 2),
-        Exactness::NoMethods => inexact(c.comp.start - 1),
-        Exactness::HasTail => inexact(c.tail),
+        Ok(()) => Ok(c),
+        Err(Inexact::NoCiphers) => Err(not_exact(c.ciphers.start - 2)),
+        Err(Inexact::NoMethods) => Err(not_exact(c.comp.start - 1)),
+        Err(Inexact::HasTail) => Err(not_exact(c.tail)),
     }
 }
 
 // Each accessor takes the bytes that the hello was read from. A view outside the bytes lent is the
 // empty part.
+// stays: a trait for these would have as many one-line getters as there are accessors.
 impl TlsClientHelloContents {
     // Tells the version that the hello has.
     pub fn version(self) -> u16
@@ -146,14 +113,11 @@ impl TlsClientHelloContents {
     }
 
     // The first four bytes of the random (RFC 5246 7.4.1.2); 0 where there are not as many.
+    #[tactic(auto, using(wire::proofs::Numbers::number_is, wire::proofs::Numbers::number_short, wire::proofs::Numbers::number_value))]
     pub fn gmt_unix_time(self, body: &[u8]) -> u32
         ensures { result ≡ gmt_unix_time (part_of body.now self.random) }
     {
-        let random = self.random(body);
-        match wire::number::parse_be(random, 0, Width::Four) {
-            NumberAnswer::Refused(_) => 0,
-            NumberAnswer::Got(n) => n.value as u32,
-        }
+        wire::number::parse_be(self.random(body), 0, Width::Four).map_or(0, |n| n.value as u32)
     }
 
     // The bytes of the random behind the first four.
@@ -167,8 +131,7 @@ impl TlsClientHelloContents {
     pub fn session_id(self, body: &[u8]) -> &[u8]
         ensures { result.now ≡ opt_part_of body.now self.session_id }
     {
-        let id = self.session_id;
-        wire::view::opt_part_of(body, id)
+        wire::view::opt_part_of(body, self.session_id)
     }
 
     // Counts the ciphers, each two bytes.
@@ -179,8 +142,8 @@ impl TlsClientHelloContents {
     }
 
     // The cipher at a place, and the place past it in the list.
-    pub fn cipher_at(self, body: &[u8], at: usize) -> NumberAnswer
-        ensures { number_says result ≡ number_place at 2 (part_of body.now self.ciphers) }
+    pub fn cipher_at(self, body: &[u8], at: usize) -> Result<Number, Refusal>
+        ensures { as_answer result ≡ number_place at 2 (part_of body.now self.ciphers) }
     {
         list::numbers::number_at(wire::view::part_of(body, self.ciphers), Width::Two, at)
     }
@@ -193,8 +156,8 @@ impl TlsClientHelloContents {
     }
 
     // The method at a place, and the place past it in the list.
-    pub fn comp_at(self, body: &[u8], at: usize) -> NumberAnswer
-        ensures { number_says result ≡ number_place at 1 (part_of body.now self.comp) }
+    pub fn comp_at(self, body: &[u8], at: usize) -> Result<Number, Refusal>
+        ensures { as_answer result ≡ number_place at 1 (part_of body.now self.comp) }
     {
         list::numbers::number_at(wire::view::part_of(body, self.comp), Width::One, at)
     }
@@ -203,24 +166,23 @@ impl TlsClientHelloContents {
     pub fn ext(self, body: &[u8]) -> &[u8]
         ensures { result.now ≡ opt_part_of body.now self.ext }
     {
-        let ext = self.ext;
-        wire::view::opt_part_of(body, ext)
+        wire::view::opt_part_of(body, self.ext)
     }
 
     // Tells whether the hello is exact, or the first of the three that keeps it from that; of one
     // that was read, the strict reader goes by it.
-    pub fn exactness(self, body: &[u8]) -> Exactness
+    pub fn exactness(self, body: &[u8]) -> Result<(), Inexact>
         ensures { result ≡ exactness body.now self }
     {
-        if wire::view::part_of(body, self.ciphers).len() == 0 {
-            return Exactness::NoCiphers;
+        if wire::view::part_of(body, self.ciphers).is_empty() {
+            return Err(Inexact::NoCiphers);
         }
-        if wire::view::part_of(body, self.comp).len() == 0 {
-            return Exactness::NoMethods;
+        if wire::view::part_of(body, self.comp).is_empty() {
+            return Err(Inexact::NoMethods);
         }
         if self.tail < body.len() {
-            return Exactness::HasTail;
+            return Err(Inexact::HasTail);
         }
-        Exactness::Exact
+        Ok(())
     }
 }

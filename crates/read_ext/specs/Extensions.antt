@@ -1,16 +1,17 @@
 -- An extension block, read: RULES 11; RFC 5246 7.4.1.4. Its items fill it, each with data of its
 -- kind, or the block is refused as a whole, with the index of the first item that cannot be had.
-use Rattle.std.specs.Prelude.{◌-◌, ◌≡◌}
+use Rattle.std.specs.Prelude.{◌-◌, ◌≡◌, Result, Ok, Err}
 use Rattle.refusal.specs.{ℕ, List, Bool, length, eqb, Option, none, some, refusal, Answer, accepted, refused, then, Refusal, LengthValue, giving}
 use Rattle.refusal.specs.Answers.{TellSame}
 use Rattle.wire.specs.{pick, number_at, Number, View}
 use Rattle.field.specs.Standing.{place_of}
 use Rattle.list.specs.{place, or_no_such}
 use Rattle.list.specs.Tagged.{any_data, fit_at, tagged_at, tagged_in, tagged_end, filled}
+use Rattle.list.specs.declared.steps.Counted.{Counted}
 use Rattle.list.specs.declared.tagged.Tagged.{Tagged}
 use Rattle.registry.specs.Extensions.{server_name_ext, max_fragment_length_ext, supported_groups_ext}
 use Rattle.read_ext.specs.Kinds.{kind_of, fits}
-use Rattle.read_ext.specs.declared.{Reach.Reach, TlsExtension.TlsExtension, TlsExtensionFound.TlsExtensionFound, TlsExtensionsAnswer.TlsExtensionsAnswer, TlsExtensionAnswer.TlsExtensionAnswer}
+use Rattle.read_ext.specs.declared.{TlsExtension.TlsExtension, TlsExtensionFound.TlsExtensionFound, Damage.Damage, NotHad.NotHad}
 use Rattle.read_ext.specs.declared.TlsExtension.TheVariants.{SNI, MaxFragmentLength, EllipticCurves, Unknown}
 
 -- what is said of a block that is sound, or the index and the refusal of its first bad item
@@ -73,7 +74,7 @@ unfoldable pub extension_from : List ℕ → ℕ → InBlock (Answer TlsExtensio
 extension_from s at = pick (eqb at 0) (if_sound s (opened_from s at)) (sound (opened_from s at))
 
 -- how many items there are, and where they end
-abbrev pub reach_in : ℕ → (ℕ → List ℕ → Bool) → List ℕ → Reach
+abbrev pub reach_in : ℕ → (ℕ → List ℕ → Bool) → List ℕ → Counted
 reach_in w fit s = record { count = length (tagged_in w fit s); end = tagged_end w fit s }
 
 -- RULES 11.9: of a list of names, those up to the first that does not fit
@@ -83,14 +84,14 @@ name_from s at = or_no_such (tagged_at 1 s at)
 abbrev pub names_in : List ℕ → List Tagged
 names_in s = tagged_in 1 any_data s
 
-abbrev pub extensions_says : TlsExtensionsAnswer → InBlock ℕ
-extensions_says (TlsExtensionsAnswer.Damaged d) = damaged d.index d.refusal
-extensions_says (TlsExtensionsAnswer.Got n) = sound n
+abbrev pub extensions_says : Result ℕ Damage → InBlock ℕ
+extensions_says (Err d) = damaged d.index d.refusal
+extensions_says (Ok n) = sound n
 
-abbrev pub extension_says : TlsExtensionAnswer → InBlock (Answer TlsExtensionFound)
-extension_says (TlsExtensionAnswer.Damaged d) = damaged d.index d.refusal
-extension_says (TlsExtensionAnswer.Refused r) = sound (refused r)
-extension_says (TlsExtensionAnswer.Got x) = sound (accepted x)
+abbrev pub extension_says : Result TlsExtensionFound NotHad → InBlock (Answer TlsExtensionFound)
+extension_says (Err (NotHad.Damaged d)) = damaged d.index d.refusal
+extension_says (Err (NotHad.Refused r)) = sound (refused r)
+extension_says (Ok x) = sound (accepted x)
 
 -- what an answer of a block tells: the index, where it is damaged, and number and values
 abbrev pub index_in : {A : Type 0} → InBlock A → Option ℕ
@@ -99,5 +100,5 @@ index_in (damaged n r) = some n
 
 -- RULES 10.16: an equal index, equal numbers and equal values are one result
 pub record OneBlock : Type 0 where
-  pub of_count : (x y : TlsExtensionsAnswer) → index_in (extensions_says x) ≡ index_in (extensions_says y) → TellSame (answer_in (extensions_says x)) (answer_in (extensions_says y)) → x ≡ y
-  pub of_one_of : (x y : TlsExtensionAnswer) → index_in (extension_says x) ≡ index_in (extension_says y) → TellSame (then (answer_in (extension_says x)) (λ a. a)) (then (answer_in (extension_says y)) (λ a. a)) → x ≡ y
+  pub of_count : (x y : Result ℕ Damage) → index_in (extensions_says x) ≡ index_in (extensions_says y) → TellSame (answer_in (extensions_says x)) (answer_in (extensions_says y)) → x ≡ y
+  pub of_one_of : (x y : Result TlsExtensionFound NotHad) → index_in (extension_says x) ≡ index_in (extension_says y) → TellSame (then (answer_in (extension_says x)) (λ a. a)) (then (answer_in (extension_says y)) (λ a. a)) → x ≡ y

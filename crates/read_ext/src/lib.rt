@@ -4,31 +4,25 @@
 #![tactic(auto)]
 
 ghost use Rattle.std.specs.Prelude.{◌≡◌, ℕ, ◌+◌, ◌^◌, ◌<◌, ◌≤◌, length};
-ghost use Rattle.list.specs.Items.{place};
-ghost use Rattle.list.specs.Tagged.{fit_at, tagged_says, TaggedBelow};
+ghost use Rattle.list.specs.Items.{place, or_no_such};
+ghost use Rattle.list.specs.Tagged.{fit_at};
 ghost use Rattle.field.specs.Standing.{place_of};
 ghost use Rattle.read_ext.specs.Kinds.{fits, kind_of};
-ghost use Rattle.refusal.specs.Answers.{giving};
+ghost use Rattle.refusal.specs.Answers.{giving, as_answer};
 ghost use Rattle.refusal.specs.Refusals.{refusal};
 ghost use Rattle.refusal.specs.declared.Reason.TheVariants.{LengthValue};
 ghost use Rattle.wire.specs.Numbers.{bytes_in};
-ghost use Rattle.read_ext.specs.Extensions.{reach_in, extension_from, extension_of, extension_place, extension_says, extensions, extensions_says, items_of, number_there, opened, opened_from, sound};
+ghost use Rattle.read_ext.specs.Extensions.{reach_in, extension_from, extension_of, extension_place, extension_says, extensions, extensions_says, items_of, number_there, opened, opened_from};
+ghost use Rattle.read_ext.specs.declared.NotHad.TheVariants.{Damaged};
 
 use field::RuleName;
-use list::tagged::{Tagged, TaggedAnswer};
+use list::steps::{self, Counted};
+use list::tagged::Tagged;
 use refusal::{Reason, Refusal};
-use wire::number::{NumberAnswer, Width};
-use wire::view::{PartAnswer, View};
+use wire::number::Width;
+use wire::view::View;
 
 pub mod names;
-
-// How far items reach: how many there are up to the first that cannot be had, and where the last of
-// them ends.
-#[derive(Clone, Copy)]
-pub struct Reach {
-    pub count: usize,
-    pub end: usize,
-}
 
 // An extension. Views are of the block: of server names and groups the list without its length, of
 // another type the data.
@@ -42,6 +36,7 @@ pub enum TlsExtension {
 
 // An extension that was found: its type, where its content lies, the place past it, and itself. The
 // content of server names and groups is the list, that of a fragment length its byte.
+// stays: the type is the number that came, any of two bytes, as C is told it.
 #[derive(Clone, Copy)]
 pub struct TlsExtensionFound {
     pub ext_type: u16,
@@ -57,22 +52,19 @@ pub struct Damage {
     pub refusal: Refusal,
 }
 
-// Holds how many extensions there are, or what is wrong with the block. A server that took the name
-// sends that extension with no data, the bytes 00 00 00 00 (RFC 6066 3), which is refused here: the
-// hello itself was read, and who wants the other extensions of a ServerHello takes the index for
-// the place of that one, and reads the bytes before and behind these four as blocks of their own.
+// Why an extension is not handed out: its block is damaged, or there is none at the place.
 #[derive(Clone, Copy)]
-pub enum TlsExtensionsAnswer {
-    Damaged(Damage),
-    Got(usize),
-}
-
-// Holds an extension, or what is wrong with the block, or the refusal where there is none.
-#[derive(Clone, Copy)]
-pub enum TlsExtensionAnswer {
+pub enum NotHad {
     Damaged(Damage),
     Refused(Refusal),
-    Got(TlsExtensionFound),
+}
+
+impl From<Damage> for NotHad {
+    ghost from_gives = { λ d e. e ≡ Damaged d };
+
+    fn from(damage: Damage) -> NotHad {
+        NotHad::Damaged(damage)
+    }
 }
 
 // Whether the data is a list of names behind its length.
@@ -80,10 +72,8 @@ fn are_names(data: &[u8]) -> bool
     ensures { result ≡ fits 0 «data».now }
 {
     let amiss = refusal::refuse(Reason::LengthValue, 0, 0);
-    match field::closing_data(data, 0, Width::Two, RuleName::Plain, amiss) {
-        PartAnswer::Refused(_) => false,
-        PartAnswer::Got(p) => names::fill(wire::view::part_of(data, p.view)),
-    }
+    let list = field::closing_data(data, 0, Width::Two, RuleName::Plain, amiss);
+    list.is_ok_and(|p| names::fill(wire::view::part_of(data, p.view)))
 }
 
 // Whether the data is a list of groups behind its length.
@@ -91,10 +81,7 @@ fn are_groups(data: &[u8]) -> bool
     ensures { result ≡ fits 10 «data».now }
 {
     let amiss = refusal::refuse(Reason::LengthValue, 0, 0);
-    match field::closing_data(data, 0, Width::Two, RuleName::Ciphers, amiss) {
-        PartAnswer::Refused(_) => false,
-        PartAnswer::Got(_) => true,
-    }
+    field::closing_data(data, 0, Width::Two, RuleName::Ciphers, amiss).is_ok()
 }
 
 // Whether the data is that of an extension of the type; a type that is not opened takes any.
@@ -109,44 +96,25 @@ fn is_of(ext_type: usize, data: &[u8]) -> bool
     }
 }
 
-// The item that begins at `at`, where its data is of its kind.
-fn item_from(block: &[u8], at: usize) -> TaggedAnswer
-    ensures result_value { tagged_says result ≡ fit_at 2 fits block.now at }
-    ensures tagged_below { TaggedBelow 2 result }
+// The item that begins at `at`, where its data is of its kind; NoSuch where none does.
+fn item_from(block: &[u8], at: usize) -> Result<Tagged, Refusal>
+    ensures { as_answer result ≡ or_no_such (fit_at 2 fits block.now at) }
 {
     match list::tagged::tagged_from(block, at, Width::Two) {
-        TaggedAnswer::Refused(r) => TaggedAnswer::Refused(r),
-        TaggedAnswer::Got(x) => {
-            if is_of(x.tag, wire::view::part_of(block, x.view)) {
-                TaggedAnswer::Got(x)
-            } else {
-                TaggedAnswer::Refused(refusal::refuse(Reason::LengthValue, at, 0))
-            }
-        }
+        Ok(x) if is_of(x.tag, wire::view::part_of(block, x.view)) => Ok(x),
+        _ => Err(refusal::refuse(Reason::NoSuch, 0, 0)),
     }
 }
 
 // Counts the items up to the first that cannot be had.
-fn count_items(block: &[u8]) -> Reach
+fn count_items(block: &[u8]) -> Counted
     ensures { result ≡ reach_in 2 fits block.now }
 {
-    let mut count: usize = 0;
-    let mut end: usize = 0;
-    loop {
-        match item_from(block, end) {
-            TaggedAnswer::Refused(_) => {
-                return Reach { count, end };
-            }
-            TaggedAnswer::Got(x) => {
-                end = x.next;
-                count += 1;
-            }
-        }
-    }
+    steps::count(|at| Ok(item_from(block, at)?.next), 0)
 }
 
 // What is wrong with a block that its items do not fill.
-fn damage_of(items: Reach) -> Damage
+fn damage_of(items: Counted) -> Damage
     ensures { result ≡ record { index = items.count; refusal = refusal LengthValue items.end 0 } }
 {
     Damage {
@@ -156,15 +124,18 @@ fn damage_of(items: Reach) -> Damage
 }
 
 // Reads a block: how many extensions there are, each of its kind; or LengthValue with the index of
-// the first item that does not fit or is not of its kind.
-pub fn parse_tls_extensions(block: &[u8]) -> TlsExtensionsAnswer
+// the first item that does not fit or is not of its kind. A server that took the name sends that
+// extension with no data, the bytes 00 00 00 00 (RFC 6066 3), which is refused here: the hello
+// itself was read, and who wants the other extensions of a ServerHello takes the index for the
+// place of that one, and reads the bytes before and behind these four as blocks of their own.
+pub fn parse_tls_extensions(block: &[u8]) -> Result<usize, Damage>
     ensures { extensions_says result ≡ extensions block.now }
 {
     let items = count_items(block);
     if items.end == block.len() {
-        TlsExtensionsAnswer::Got(items.count)
+        Ok(items.count)
     } else {
-        TlsExtensionsAnswer::Damaged(damage_of(items))
+        Err(damage_of(items))
     }
 }
 
@@ -173,9 +144,7 @@ pub fn inner_length(ext_type: usize) -> usize
     ensures { (n : ℕ) → result ≡ place_of (kind_of ext_type n).field 0 }
 {
     match ext_type {
-        registry::extension::SERVER_NAME => 2,
-        registry::extension::MAX_FRAGMENT_LENGTH => 0,
-        registry::extension::SUPPORTED_GROUPS => 2,
+        registry::extension::SERVER_NAME | registry::extension::SUPPORTED_GROUPS => 2,
         _ => 0,
     }
 }
@@ -185,10 +154,7 @@ pub fn number_there(s: &[u8], at: usize, w: Width) -> usize
     ensures value { result ≡ number_there (bytes_in w) s.now at }
     ensures upper_bound { result < 256 ^ bytes_in w }
 {
-    match wire::number::parse_be(s, at, w) {
-        NumberAnswer::Refused(_) => 0,
-        NumberAnswer::Got(n) => n.value,
-    }
+    wire::number::parse_be(s, at, w).map_or(0, |n| n.value)
 }
 
 // The extension of a type whose content lies there.
@@ -210,12 +176,11 @@ fn open_item(block: &[u8], x: Tagged) -> TlsExtensionFound
     requires { (x.tag < 65536) × (place_of (kind_of x.tag x.view.len).field 0 ≤ x.view.len) × (x.view.start + x.view.len ≤ length block.now) }
     ensures { result ≡ opened block.now x }
 {
-    let v = x.view;
     let inner = inner_length(x.tag);
     let ext_type = x.tag as u16;
     let content = View {
-        start: v.start + inner,
-        len: v.len - inner,
+        start: x.view.start + inner,
+        len: x.view.len - inner,
     };
     TlsExtensionFound {
         ext_type,
@@ -226,63 +191,37 @@ fn open_item(block: &[u8], x: Tagged) -> TlsExtensionFound
 }
 
 // The item that begins at `at` as it is handed out; NoSuch where none does.
-fn open_from(block: &[u8], at: usize) -> TlsExtensionAnswer
-    ensures { extension_says result ≡ sound (opened_from block.now at) }
+fn open_from(block: &[u8], at: usize) -> Result<TlsExtensionFound, Refusal>
+    ensures { as_answer result ≡ opened_from block.now at }
 {
-    match item_from(block, at) {
-        TaggedAnswer::Refused(_) => {
-            TlsExtensionAnswer::Refused(refusal::refuse(Reason::NoSuch, 0, 0))
-        }
-        TaggedAnswer::Got(x) => TlsExtensionAnswer::Got(open_item(block, x)),
-    }
+    Ok(open_item(block, item_from(block, at)?))
 }
 
 // The item at a place, found by walking.
-fn item_at(block: &[u8], n: usize) -> TlsExtensionAnswer
-    ensures { extension_says result ≡ sound (giving (opened block.now) (place n (items_of block.now))) }
+fn item_at(block: &[u8], n: usize) -> Result<TlsExtensionFound, Refusal>
+    ensures { as_answer result ≡ giving (opened block.now) (place n (items_of block.now)) }
 {
-    let mut from: usize = 0;
-    let mut k: usize = 0;
-    while k < n {
-        match item_from(block, from) {
-            TaggedAnswer::Refused(_) => {
-                return TlsExtensionAnswer::Refused(refusal::refuse(Reason::NoSuch, 0, 0));
-            }
-            TaggedAnswer::Got(x) => {
-                from = x.next;
-            }
-        }
-        k += 1;
-    }
+    let from = steps::skip(|from| Ok(item_from(block, from)?.next), n)?;
     open_from(block, from)
 }
 
 // The extension at a place, counted from 0: LengthValue with the index of the first bad item, where
 // the block is damaged; then NoSuch from the count on.
-pub fn extension_at(block: &[u8], n: usize) -> TlsExtensionAnswer
+pub fn extension_at(block: &[u8], n: usize) -> Result<TlsExtensionFound, NotHad>
     ensures { extension_says result ≡ extension_place n block.now }
 {
-    let items = count_items(block);
-    if items.end == block.len() {
-        item_at(block, n)
-    } else {
-        TlsExtensionAnswer::Damaged(damage_of(items))
-    }
+    parse_tls_extensions(block)?;
+    item_at(block, n).map_err(NotHad::Refused)
 }
 
 // The extension that begins at `at`, with the place of the next one: a walk begins at 0, where the
 // whole block is looked at, and goes on from the place handed out. LengthValue with the index at
 // the front of a damaged block, so that no place of one is handed out; NoSuch past the last.
-pub fn extension_from(block: &[u8], at: usize) -> TlsExtensionAnswer
+pub fn extension_from(block: &[u8], at: usize) -> Result<TlsExtensionFound, NotHad>
     ensures { extension_says result ≡ extension_from block.now at }
 {
-    if at != 0 {
-        return open_from(block, at);
+    if at == 0 {
+        parse_tls_extensions(block)?;
     }
-    let items = count_items(block);
-    if items.end == block.len() {
-        open_from(block, at)
-    } else {
-        TlsExtensionAnswer::Damaged(damage_of(items))
-    }
+    open_from(block, at).map_err(NotHad::Refused)
 }

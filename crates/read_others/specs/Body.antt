@@ -2,10 +2,10 @@
 -- draft-ietf-tls-tls13-18 4.1.4, RFC 5077 3.3, draft-agl-tls-nextprotoneg-03.
 use Rattle.std.specs.Prelude.{◌+◌, ◌-◌, ◌<◌, ◌≤◌, ◌≡◌, ◌∷◌, ◌++◌}
 use Rattle.refusal.specs.{ℕ, List, [], none, some, ltb, length, take, drop, refusal, Answer, accepted, refused, then, Incomplete, Verify, LengthValue, Refusal}
-use Rattle.wire.specs.{pick, part_of, be, bytes_of, Absent}
+use Rattle.wire.specs.{pick, part_of, be, bytes_of, None}
 use Rattle.field.specs.{fixed, sized, step, TooFew}
 use Rattle.grammar.specs.{as_view, as_number, version, cipher, extensions, Form, ClosedForm, closed, ByClosedSplit}
-use Rattle.read_others.specs.declared.{next_protocol.NextProtocolAnswer.NextProtocolAnswer, next_protocol.TlsNextProtocolContent.TlsNextProtocolContent, retry.HelloRetryRequestAnswer.HelloRetryRequestAnswer, retry.TlsHelloRetryRequestContents.TlsHelloRetryRequestContents, ticket.NewSessionTicketAnswer.NewSessionTicketAnswer, ticket.TlsNewSessionTicketContent.TlsNewSessionTicketContent}
+use Rattle.read_others.specs.declared.{next_protocol.TlsNextProtocolContent.TlsNextProtocolContent, retry.TlsHelloRetryRequestContents.TlsHelloRetryRequestContents, ticket.TlsNewSessionTicketContent.TlsNewSessionTicketContent}
 
 -- RULES 4.3: HelloRetryRequest; draft-ietf-tls-tls13-18 4.1.4
 abbrev pub retry : Form TlsHelloRetryRequestContents
@@ -23,7 +23,7 @@ next_protocol = record {
   grammar = record { rows = (sized 1, as_view) ∷ (sized 1, as_view) ∷ []; block = none };
   value = λ (protocol, (padding, _)) e t. record { selected_protocol = protocol; padding = padding; tail = t };
   handed = λ c. (c.selected_protocol, (c.padding, tt));
-  block = λ c. Absent;
+  block = λ c. None;
   tail = λ c. c.tail;
 }
 
@@ -71,15 +71,3 @@ pub record OfTicket (n : ℕ) (body : List ℕ) : Type 0 where
   pub splits : (c : TlsNewSessionTicketContent) → session_ticket n body ≡ accepted c → TicketSplit n body (bytes_of 4 c.ticket_lifetime_hint) (part_of body c.ticket) (drop c.tail body)
   -- the split is the only one
   pub only : (l m t u x y : List ℕ) → TicketSplit n body l t x → TicketSplit n body m u y → (l ≡ m) × (t ≡ u) × (x ≡ y)
-
-abbrev pub retry_says : HelloRetryRequestAnswer → Answer TlsHelloRetryRequestContents
-retry_says (HelloRetryRequestAnswer.Refused r) = refused r
-retry_says (HelloRetryRequestAnswer.Got c) = accepted c
-
-abbrev pub ticket_says : NewSessionTicketAnswer → Answer TlsNewSessionTicketContent
-ticket_says (NewSessionTicketAnswer.Refused r) = refused r
-ticket_says (NewSessionTicketAnswer.Got c) = accepted c
-
-abbrev pub next_protocol_says : NextProtocolAnswer → Answer TlsNextProtocolContent
-next_protocol_says (NextProtocolAnswer.Refused r) = refused r
-next_protocol_says (NextProtocolAnswer.Got c) = accepted c

@@ -1,10 +1,10 @@
 -- The ServerHello, and that of TLS 1.3 draft 18, as values: RULES 3.3 to 3.5; RFC 5246 7.4.1.3,
 -- draft-ietf-tls-tls13-18 4.1.3.
 use Rattle.std.specs.Prelude.{◌∷◌}
-use Rattle.refusal.specs.{[], Bool, true, false, Answer, accepted, refused}
+use Rattle.refusal.specs.{[], Bool, true, false}
 use Rattle.registry.specs.Versions.{ssl30, tls10, tls11, tls12}
 use Rattle.grammar.specs.{server_hello, server_hello_draft18, Form, Listing}
-use Rattle.read_server.specs.declared.{tlsv12.ServerHelloAnswer.ServerHelloAnswer, tlsv12.TlsServerHelloContents.TlsServerHelloContents, tlsv13draft18.Draft18Answer.Draft18Answer, tlsv13draft18.TlsServerHelloV13Draft18Contents.TlsServerHelloV13Draft18Contents}
+use Rattle.read_server.specs.declared.{tlsv12.TlsServerHelloContents.TlsServerHelloContents, tlsv13draft18.TlsServerHelloV13Draft18Contents.TlsServerHelloV13Draft18Contents}
 
 abbrev pub server : Bool → Form TlsServerHelloContents
 server hasExt = record {
@@ -19,10 +19,6 @@ server hasExt = record {
 abbrev pub server_versions : Listing TlsServerHelloContents
 server_versions = (tls12, server true) ∷ (tls11, server true) ∷ (tls10, server true) ∷ (ssl30, server false) ∷ []
 
-abbrev pub server_says : ServerHelloAnswer → Answer TlsServerHelloContents
-server_says (ServerHelloAnswer.Refused r) = refused r
-server_says (ServerHelloAnswer.Got c) = accepted c
-
 abbrev pub draft18 : Form TlsServerHelloV13Draft18Contents
 draft18 = record {
   grammar = server_hello_draft18;
@@ -31,7 +27,3 @@ draft18 = record {
   block = λ c. c.ext;
   tail = λ c. c.tail;
 }
-
-abbrev pub draft18_says : Draft18Answer → Answer TlsServerHelloV13Draft18Contents
-draft18_says (Draft18Answer.Refused r) = refused r
-draft18_says (Draft18Answer.Got c) = accepted c

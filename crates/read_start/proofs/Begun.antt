@@ -4,19 +4,18 @@ use Prim.Native.Nat.{ℕ}
 use mathlib.Core.Path.{◌≡◌, refl, ap, sym, ◌∙◌}
 use mathlib.Core.Logic.{◌⊎◌, inl, inr}
 use mathlib.Core.List.{List, ◌++◌}
-use Rattle.refusal.specs.Answers.{Answer, accepted, refused, then, OneResult}
+use Rattle.std.specs.Prelude.{Result, Ok, Err, IsErr, IsErrAnd}
+use Rattle.refusal.specs.Answers.{Answer, accepted, refused, then, as_answer}
 use Rattle.refusal.specs.declared.Refusal.{Refusal}
-use Rattle.refusal.proofs.Told.{tells_all}
 use Rattle.refusal.proofs.Then.{not_both, then_accepted, then_refused}
+use Rattle.refusal.proofs.Told.{case, hands_on}
 use Rattle.wire.specs.Numbers.{be}
 use Rattle.grammar.specs.Grammars.{Row, Views}
 use Rattle.grammar.specs.Reading.{fields_at, last_at, with_last}
 use Rattle.grammar.specs.Forms.{absent_if_empty, value_of, reading}
-use Rattle.grammar.proofs.Chain.{So, both, begin_on, and_all_on}
-use Rattle.read_start.specs.Start.{hello_start, start_says}
+use Rattle.grammar.proofs.Chain.{So, both, begin_on, and_all_on, stop_all}
+use Rattle.read_start.specs.Start.{hello_start}
 use Rattle.read_start.specs.declared.Start.{Start}
-use Rattle.read_start.specs.declared.StartAnswer.{StartAnswer}
-use Rattle.read_start.specs.declared.StartAnswer.TheVariants.{Refused, Got}
 
 abbrev pub start_rows : List Row
 start_rows = hello_start.grammar.rows
@@ -70,13 +69,15 @@ abbrev pub after : {X : Type 0} {whole : Answer X} {s : List ℕ} (us : List Row
 after us k on {a} b =
     record { n = a.next; k = λ t. k (both start_rows us b.q.0 t.0, t.1); on = after_on us k on b }
 
-abbrev back : Answer Start → StartAnswer
-back (accepted a) = Got a
-back (refused r) = Refused r
+-- the same by what a reader has of them
+abbrev pub began : {X : Type 0} {whole : Answer X} {s : List ℕ} (us : List Row)
+    (k : Views (start_rows ++ us) × ℕ → Answer X) → whole ≡ then (fields_at (start_rows ++ us) s 0) k
+    → {x : Result Start Refusal} {a : Start} → as_answer x ≡ reading hello_start s → x ≡ Ok a → So whole s us
+began us k on e g = after us k on (begun _ (case as_answer e g))
 
-home : (a : StartAnswer) → back (start_says a) ≡ a
-home (Refused r) = refl
-home (Got a) = refl
-
-pub one_start_lem : OneResult start_says
-one_start_lem = tells_all start_says back home
+-- and where one of them cannot be had
+pub unbegun : {X : Type 0} {whole : Answer X} {s : List ℕ} (us : List Row) (o : So whole s (start_rows ++ us))
+    → o.n ≡ 0 → {a : Result Start Refusal} {r : Refusal} → as_answer a ≡ reading hello_start s → a ≡ Err r
+    → (x : Result X Refusal) → IsErr x × IsErrAnd x (λ d. d ≡ r) → as_answer x ≡ whole
+unbegun us o z e g x h =
+    hands_on x h (sym (stop_all start_rows us o (rw z (not_begun _ (case as_answer e g)))))

@@ -1,3 +1,3 @@
 pub mod Records
-pub use Records.{header, fragment, raw, encrypted, header_says, raw_says, encrypted_says}
+pub use Records.{header, fragment, raw, encrypted}
 pub use declared.{TlsRawRecord.TlsRawRecord, TlsRecordHeader.TlsRecordHeader}

@@ -1,28 +1,23 @@
 // The record's header, and records whose content is not opened (RFC 5246 6.2.1, 6.2.3).
-#![tactic(auto)]
+#![tactic(auto, unfolding(crate::specs::Records::encrypted, crate::specs::Records::header))]
 
 ghost use Rattle.std.specs.Prelude.{◌≡◌};
 ghost use Rattle.grammar.specs.Forms.{reading};
-ghost use Rattle.record.specs.Records.{encrypted, encrypted_says, header, header_says, raw, raw_says};
+ghost use Rattle.record.specs.Records.{encrypted, header, raw};
+ghost use Rattle.refusal.specs.Answers.{as_answer};
 
 use field::RuleName;
 use refusal::Refusal;
-use wire::number::{NumberAnswer, Width};
-use wire::view::{PartAnswer, View};
+use wire::number::Width;
+use wire::view::View;
 
 // Holds type, version and length of a record, its first five bytes.
+// stays: the type is the byte that came, any of 256, as C is told it.
 #[derive(Clone, Copy)]
 pub struct TlsRecordHeader {
     pub record_type: u8,
     pub version: u16,
     pub len: u16,
-}
-
-// Holds the header of a record, or the refusal.
-#[derive(Clone, Copy)]
-pub enum RecordHeaderAnswer {
-    Refused(Refusal),
-    Got(TlsRecordHeader),
 }
 
 // tls-parser's fields, and where the next record begins.
@@ -33,14 +28,8 @@ pub struct TlsRawRecord {
     pub next: usize,
 }
 
-// Holds a record whose content is not opened, or the refusal.
-#[derive(Clone, Copy)]
-pub enum RawRecordAnswer {
-    Refused(Refusal),
-    Got(TlsRawRecord),
-}
-
 // Names the content of an encrypted record.
+// stays: tls-parser has this type and `TlsMessageApplicationData`, which hold the same, apart.
 #[derive(Clone, Copy)]
 pub struct TlsEncryptedContent {
     pub blob: View,
@@ -54,36 +43,14 @@ pub struct TlsEncrypted {
     pub next: usize,
 }
 
-// Holds an encrypted record, or the refusal.
-#[derive(Clone, Copy)]
-pub enum EncryptedAnswer {
-    Refused(Refusal),
-    Got(TlsEncrypted),
-}
-
 // The header alone; what follows it begins at byte 5.
-pub fn parse_tls_record_header(i: &[u8]) -> RecordHeaderAnswer
-    ensures { header_says result ≡ header i.now }
+pub fn parse_tls_record_header(i: &[u8]) -> Result<TlsRecordHeader, Refusal>
+    ensures { as_answer result ≡ header i.now }
 {
-    let record_type = match wire::number::parse_be(i, 0, Width::One) {
-        NumberAnswer::Refused(r) => {
-            return RecordHeaderAnswer::Refused(r);
-        }
-        NumberAnswer::Got(n) => n,
-    };
-    let version = match wire::number::parse_be(i, record_type.next, Width::Two) {
-        NumberAnswer::Refused(r) => {
-            return RecordHeaderAnswer::Refused(r);
-        }
-        NumberAnswer::Got(n) => n,
-    };
-    let len = match wire::number::parse_be(i, version.next, Width::Two) {
-        NumberAnswer::Refused(r) => {
-            return RecordHeaderAnswer::Refused(r);
-        }
-        NumberAnswer::Got(n) => n,
-    };
-    RecordHeaderAnswer::Got(TlsRecordHeader {
+    let record_type = wire::number::parse_be(i, 0, Width::One)?;
+    let version = wire::number::parse_be(i, record_type.next, Width::Two)?;
+    let len = wire::number::parse_be(i, version.next, Width::Two)?;
+    Ok(TlsRecordHeader {
         record_type: record_type.value as u8,
         version: version.value as u16,
         len: len.value as u16,
@@ -91,55 +58,33 @@ pub fn parse_tls_record_header(i: &[u8]) -> RecordHeaderAnswer
 }
 
 // The record at the front, of any type.
-pub fn parse_tls_raw_record(i: &[u8]) -> RawRecordAnswer
-    ensures { raw_says result ≡ reading raw i.now }
+// stays: type and version are read as in the header; a function for the two would be longer.
+#[tactic(auto, unfolding(field::specs::Fields::step, grammar::specs::Forms::reading, grammar::specs::Reading::fields_at, grammar::specs::Reading::read, wire::specs::Numbers::number_at))]
+pub fn parse_tls_raw_record(i: &[u8]) -> Result<TlsRawRecord, Refusal>
+    ensures { as_answer result ≡ reading raw i.now }
 {
-    let record_type = match wire::number::parse_be(i, 0, Width::One) {
-        NumberAnswer::Refused(r) => {
-            return RawRecordAnswer::Refused(r);
-        }
-        NumberAnswer::Got(n) => n,
-    };
-    let version = match wire::number::parse_be(i, record_type.next, Width::Two) {
-        NumberAnswer::Refused(r) => {
-            return RawRecordAnswer::Refused(r);
-        }
-        NumberAnswer::Got(n) => n,
-    };
-    let fragment = match field::length_data(i, version.next, Width::Two, RuleName::Fragment) {
-        PartAnswer::Refused(r) => {
-            return RawRecordAnswer::Refused(r);
-        }
-        PartAnswer::Got(p) => p,
-    };
-    let data = fragment.view;
-    let hdr = TlsRecordHeader {
-        record_type: record_type.value as u8,
-        version: version.value as u16,
-        len: data.len as u16,
-    };
-    RawRecordAnswer::Got(TlsRawRecord {
-        hdr,
-        data,
+    let record_type = wire::number::parse_be(i, 0, Width::One)?;
+    let version = wire::number::parse_be(i, record_type.next, Width::Two)?;
+    let fragment = field::length_data(i, version.next, Width::Two, RuleName::Fragment)?;
+    Ok(TlsRawRecord {
+        hdr: TlsRecordHeader {
+            record_type: record_type.value as u8,
+            version: version.value as u16,
+            len: fragment.view.len as u16,
+        },
+        data: fragment.view,
         next: fragment.next,
     })
 }
 
 // Takes the record at the front as an encrypted one, whose content is not to be opened.
-pub fn parse_tls_encrypted(i: &[u8]) -> EncryptedAnswer
-    ensures { encrypted_says result ≡ encrypted i.now }
+pub fn parse_tls_encrypted(i: &[u8]) -> Result<TlsEncrypted, Refusal>
+    ensures { as_answer result ≡ encrypted i.now }
 {
-    match parse_tls_raw_record(i) {
-        RawRecordAnswer::Refused(r) => EncryptedAnswer::Refused(r),
-        RawRecordAnswer::Got(record) => {
-            let hdr = record.hdr;
-            let blob = record.data;
-            let msg = TlsEncryptedContent { blob };
-            EncryptedAnswer::Got(TlsEncrypted {
-                hdr,
-                msg,
-                next: record.next,
-            })
-        }
-    }
+    let record = parse_tls_raw_record(i)?;
+    Ok(TlsEncrypted {
+        hdr: record.hdr,
+        msg: TlsEncryptedContent { blob: record.data },
+        next: record.next,
+    })
 }

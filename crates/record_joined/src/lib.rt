@@ -1,11 +1,12 @@
 // Joined records. Every place is counted from the front of the bytes lent.
-#![tactic(auto)]
+#![tactic(auto, using(crate::proofs::Joined::from_lies, crate::proofs::Joined::few_messages, crate::proofs::Joined::raw_in), unfolding(crate::specs::Joined::messages_in, crate::specs::Joined::record_from, crate::specs::Joined::view_in_of))]
 
 ghost use Rattle.std.specs.Prelude.{◌≡◌};
-ghost use Rattle.record.specs.Records.{raw_says};
 ghost use Rattle.record_joined.specs.Joined.{messages_in, record_from, tallied, view_in_of};
+ghost use Rattle.refusal.specs.Answers.{as_answer};
 
-use record::{RawRecordAnswer, TlsRawRecord};
+use record::TlsRawRecord;
+use refusal::Refusal;
 use wire::view::View;
 
 // What `inner` names in the part that `outer` names, as a view of `s`; the empty view where it lies
@@ -14,10 +15,7 @@ pub fn view_in(s: &[u8], outer: View, inner: View) -> View
     ensures { result ≡ view_in_of s.now outer inner }
 {
     let len = wire::view::part_of(s, outer).len();
-    if len < inner.start {
-        return View { start: 0, len: 0 };
-    }
-    if len - inner.start < inner.len {
+    if len < inner.start || len - inner.start < inner.len {
         return View { start: 0, len: 0 };
     }
     View {
@@ -27,37 +25,28 @@ pub fn view_in(s: &[u8], outer: View, inner: View) -> View
 }
 
 // The record that begins at `at`, of any type.
-pub fn record_from(s: &[u8], at: usize) -> RawRecordAnswer
-    ensures { raw_says result ≡ record_from s.now at }
+pub fn record_from(s: &[u8], at: usize) -> Result<TlsRawRecord, Refusal>
+    ensures { as_answer result ≡ record_from s.now at }
 {
-    match record::parse_tls_raw_record(wire::view::rest_of(s, at)) {
-        RawRecordAnswer::Refused(r) => RawRecordAnswer::Refused(r),
-        RawRecordAnswer::Got(x) => {
-            let hdr = x.hdr;
-            let inner = x.data;
-            let data = View {
-                start: at + inner.start,
-                len: inner.len,
-            };
-            RawRecordAnswer::Got(TlsRawRecord {
-                hdr,
-                data,
-                next: at + x.next,
-            })
-        }
-    }
+    let x = record::parse_tls_raw_record(wire::view::rest_of(s, at))?;
+    Ok(TlsRawRecord {
+        hdr: x.hdr,
+        data: View {
+            start: at + x.data.start,
+            len: x.data.len,
+        },
+        next: at + x.next,
+    })
 }
 
 // How many messages the record holds: none where it is not of handshake messages.
 fn messages_in(s: &[u8], r: TlsRawRecord) -> usize
     ensures { result ≡ messages_in s.now r }
 {
-    let hdr = r.hdr;
-    let content = r.data;
-    if hdr.record_type == registry::record::HANDSHAKE {
-        return record_walk::count_messages(wire::view::part_of(s, content), 0).count;
+    if r.hdr.record_type != registry::record::HANDSHAKE {
+        return 0;
     }
-    0
+    record_walk::count_messages(wire::view::part_of(s, r.data), 0).count
 }
 
 // How many whole records there are up to the first that is refused, how many messages they hold,
@@ -76,20 +65,15 @@ pub fn count_records(s: &[u8]) -> RecordTally
     let mut records: usize = 0;
     let mut messages: usize = 0;
     let mut end: usize = 0;
-    loop {
-        match record_from(s, end) {
-            RawRecordAnswer::Refused(_) => {
-                return RecordTally {
-                    records,
-                    messages,
-                    end,
-                };
-            }
-            RawRecordAnswer::Got(r) => {
-                messages += messages_in(s, r);
-                records += 1;
-                end = r.next;
-            }
-        }
+    // stays: `list::steps` counts alone, and this loop sums the messages too.
+    while let Ok(r) = record_from(s, end) {
+        messages += messages_in(s, r);
+        records += 1;
+        end = r.next;
+    }
+    RecordTally {
+        records,
+        messages,
+        end,
     }
 }

@@ -3,17 +3,17 @@
 use Prim.Native.Nat.{ℕ, zero, suc, ◌+◌, ◌-◌, ◌≤◌}
 use mathlib.Core.Path.{◌≡◌, refl, sym, ap, ◌∙◌}
 use mathlib.Core.List.{List}
-use mathlib.Core.Logic.{◌⊎◌, inl, inr}
 use native.Mathlib.Omega.{arith}
 use lib.ListN.{length, drop, length-drop}
 use Rattle.refusal.specs.Answers.{Answer, accepted, refused, giving, within}
 use Rattle.refusal.specs.Refusals.{refusal}
 use Rattle.refusal.specs.declared.Reason.TheVariants.{NoSuch}
 use Rattle.refusal.specs.declared.Refusal.{Refusal}
-use Rattle.refusal.proofs.Then.{not_both, then_accepted, then_refused, within_accepted}
+use Rattle.refusal.proofs.Then.{not_both, then_accepted, within_accepted}
 use Rattle.list.specs.Items.{place, or_no_such}
 use Rattle.list.specs.Stopping.{Takes}
-use Rattle.list.proofs.Walk.{Moves, rest, fuel, rest_on, first, go_on, none, none_after, got}
+use Rattle.list.proofs.Walk.{Moves, rest, rest_on, first, go_on, none, none_after, got}
+use Rattle.list.proofs.Stepping.{all_from}
 use Rattle.list.proofs.Stopping.{moves_by, ends_in, stops_by}
 use Rattle.record.specs.declared.TlsRawRecord.{TlsRawRecord}
 use Rattle.record.proofs.Lies.{raw_lies, same_value}
@@ -22,7 +22,7 @@ use Rattle.record_open.specs.Plaintext.{as_first, plaintext, record_met, plain_r
 use Rattle.record_open.specs.declared.TlsPlaintext.{TlsPlaintext}
 use Rattle.record_many.specs.Many.{plaintext_from, record_past, records_from, records_told, many, next_record}
 use Rattle.record_many.specs.Many.{moved_records, records_after, ManyRecords}
-use Rattle.record_many.specs.declared.TlsRecords.{TlsRecords}
+use Rattle.list.specs.declared.steps.Counted.{Counted as TlsRecords}
 use Rattle.record_many.specs.declared.TlsRecordsWalk.{TlsRecordsWalk}
 
 abbrev pub behind : TlsPlaintext → ℕ
@@ -94,27 +94,6 @@ by_records s = moves_by (takes_five s)
 abbrev pub left : List ℕ → ℕ → List TlsPlaintext
 left s at = rest (plaintext_from s) behind (length s) at
 
-pub all_from : (s : List ℕ) (at : ℕ) → records_from s at ≡ left s at
-all_from s at = fuel (by_records s) (length s) (length s - at) at (omega arith) (omega arith)
-
--- where one ends, by the record
-pub past_got : (s : List ℕ) (at : ℕ) {n : ℕ} → record_past s at ≡ accepted n → (p : TlsPlaintext)
-    × (plaintext_from s at ≡ accepted p) × (p.next ≡ n)
-unfolding record_past
-past_got s at {n} e =
-    let u = then_accepted (plaintext_from s at) (λ p. accepted p.next) e in
-    (u.0, u.1, same_value u.2)
-
-pub past_not : (s : List ℕ) (at : ℕ) {r : Refusal} → record_past s at ≡ refused r → plaintext_from s at ≡ refused r
-unfolding record_past
-past_not s at {r} e = go (then_refused (plaintext_from s at) (λ p. accepted p.next) e)
-  where
-    go : (plaintext_from s at ≡ refused r) ⊎
-        ((p : TlsPlaintext) × (plaintext_from s at ≡ accepted p) × (◌≡◌ {A = Answer ℕ} (accepted p.next) (refused r)))
-        → plaintext_from s at ≡ refused r
-    go (inl x) = x
-    go (inr (x, y, z)) = absurd (not_both refl z)
-
 moved_on : (s : List ℕ) (w : TlsRecordsWalk) {p : TlsPlaintext} → plaintext_from s w.next ≡ accepted p
     → moved_records s w ≡ record { next = p.next }
 unfolding moved_records
@@ -129,15 +108,15 @@ module _ (s : List ℕ) where
   -- the walk after k calls stands where the record at the place k is found
   meets : (k : ℕ) → next_record s (records_after k s) ≡ place k (records_from s 0)
   unfolding records_after next_record
-  meets zero = rw (all_from s 0) (sym (first (by_records s) 0))
+  meets zero = rw (all_from (by_records s) 0) (sym (first (by_records s) 0))
   meets (suc k) = go (plaintext_from s (records_after k s).next) refl (meets k)
     where
       go : (a : Answer TlsPlaintext) → plaintext_from s (records_after k s).next ≡ a
           → or_no_such (plaintext_from s (records_after k s).next) ≡ place k (records_from s 0)
           → or_no_such (plaintext_from s (moved_records s (records_after k s)).next) ≡ place (suc k) (records_from s 0)
       go (accepted p) e ih =
-          let q : place k (left s 0) ≡ accepted p = rw (← (all_from s 0)) (sym ih ∙ rw e) in
-          rw (moved_on s (records_after k s) e, all_from s 0) (sym (go_on (by_records s) k 0 q))
+          let q : place k (left s 0) ≡ accepted p = rw (← (all_from (by_records s) 0)) (sym ih ∙ rw e) in
+          rw (moved_on s (records_after k s) e, all_from (by_records s) 0) (sym (go_on (by_records s) k 0 q))
       go (refused r) e ih =
           let q : place k (records_from s 0) ≡ refused (refusal NoSuch 0 0) = sym ih ∙ rw e in
           rw (moved_not s (records_after k s) e, e) (sym (none_after k (records_from s 0) q))
@@ -159,7 +138,7 @@ module _ (s : List ℕ) where
       let z : records_told s 0 ≡ x = same_value d in
       let i = ends_in (takes_five s) (length s) 0 (omega arith) in
       let l : length (records_from s 0) ≡ 1 + length (left s p.next) =
-      rw (all_from s 0, rest_on (by_records s) 0 e) (omega arith) in
+      rw (all_from (by_records s) 0, rest_on (by_records s) 0 e) (omega arith) in
       rw (← z) (omega (arith, l), i.0)
   first_of (refused r) e d = absurd (not_both d refl)
 

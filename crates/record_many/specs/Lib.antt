@@ -1,3 +1,3 @@
 pub mod Many
-pub use Many.{plaintext_from, many, next_record, ManyRecords, many_says}
-pub use declared.{TlsRecords.TlsRecords, TlsRecordsWalk.TlsRecordsWalk}
+pub use Many.{plaintext_from, many, next_record, ManyRecords}
+pub use declared.TlsRecordsWalk.{TlsRecordsWalk}

@@ -4,7 +4,8 @@ use Rattle.std.specs.Prelude.{◌+◌, ◌≤◌, ◌≡◌}
 use Rattle.refusal.specs.{ℕ, zero, suc, List, drop, length, refusal, Answer, accepted, refused, giving, within, NoSuch, Refusal}
 use Rattle.list.specs.{items_from, place, or_no_such, end_of, Stops}
 use Rattle.record_open.specs.{as_first, plaintext, TlsPlaintext}
-use Rattle.record_many.specs.declared.{ManyAnswer.ManyAnswer, TlsRecords.TlsRecords, TlsRecordsWalk.TlsRecordsWalk}
+use Rattle.list.specs.declared.steps.Counted.{Counted as TlsRecords}
+use Rattle.record_many.specs.declared.TlsRecordsWalk.{TlsRecordsWalk}
 
 -- the record that begins at a place, opened, its places counted from the front of all
 unfoldable pub plaintext_from : List ℕ → ℕ → Answer TlsPlaintext
@@ -62,7 +63,3 @@ pub record ManyRecords (s : List ℕ) : Type 0 where
   pub stays : (w : TlsRecordsWalk) (r : Refusal) → next_record s w ≡ refused r → (r ≡ refusal NoSuch 0 0) × (moved_records s w ≡ w)
   -- where there is an answer, there is a record at least, and it stopped within the bytes
   pub some : (x : TlsRecords) → many s ≡ accepted x → (1 ≤ x.count) × (x.end ≤ length s)
-
-abbrev pub many_says : ManyAnswer → Answer TlsRecords
-many_says (ManyAnswer.Refused r) = refused r
-many_says (ManyAnswer.Got x) = accepted x

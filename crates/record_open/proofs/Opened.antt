@@ -2,21 +2,18 @@
 -- record that can be opened is. Assumes nothing.
 use Prim.Native.Nat.{ℕ, ◌+◌, ◌-◌, ◌≤◌}
 use mathlib.Core.Path.{◌≡◌, refl, ap, ◌∙◌}
-use mathlib.Core.Bool.{true, false}
+use mathlib.Core.Bool.{true}
 use mathlib.Core.List.{List}
 use native.Mathlib.Omega.{arith}
 use lib.ListN.{length}
 use Rattle.refusal.specs.Answers.{Answer, accepted, refused, giving, then}
-use Rattle.refusal.specs.Refusals.{refusal}
-use Rattle.refusal.specs.declared.Reason.TheVariants.{Switch}
-use Rattle.refusal.specs.declared.Refusal.{Refusal}
-use Rattle.refusal.proofs.Then.{not_both, then_accepted}
+use Rattle.refusal.proofs.Then.{then_accepted}
 use Rattle.list.specs.Stopping.{end_of}
 use Rattle.content_walk.specs.ContentWalks.{found_at, messages_of, messages_behind, dropped_of}
 use Rattle.content_walk.specs.declared.TlsFound.{TlsFound}
 use Rattle.record.specs.Records.{raw}
 use Rattle.record.specs.declared.TlsRawRecord.{TlsRawRecord}
-use Rattle.record_open.specs.Plaintext.{contents, first_of, is_opened, of_content, opened_first, plain_record}
+use Rattle.record_open.specs.Plaintext.{contents, first_of, is_opened, opened_first, plain_record}
 use Rattle.record_open.specs.Plaintext.{plaintext, record_met}
 use Rattle.record_open.specs.declared.TlsPlaintextOpened.{TlsPlaintextOpened}
 use Rattle.record_open.specs.declared.TlsPlaintext.{TlsPlaintext}
@@ -48,46 +45,10 @@ module _ (t : ℕ) (content : List ℕ) {next : ℕ} (e : giving (λ x. x.next) 
 
 -- the first message, by what is found
 module _ (t at : ℕ) (content : List ℕ) where
-  pub first_closed : is_opened t ≡ false → first_of t at content ≡ refused (refusal Switch 0 0)
-  unfolding first_of
-  first_closed f = rw f
-
-  pub first_refused : {r : Refusal} → is_opened t ≡ true → found_at t content 0 ≡ refused r
-      → first_of t at content ≡ refused (of_content t at r)
-  unfolding first_of
-  first_refused y e = rw (y, e)
-
   pub first_got : {x : TlsFound} → is_opened t ≡ true → found_at t content 0 ≡ accepted x
       → first_of t at content ≡ accepted x
   unfolding first_of
   first_got y e = rw (y, e)
-
--- an answer of which the place past it is known
-no_place : (a : Answer TlsFound) (o : TlsRawRecord) {r : Refusal} → giving (λ x. x.next) a ≡ refused r
-    → giving (λ x. o) a ≡ refused r
-no_place (accepted x) o e = absurd (not_both refl e)
-no_place (refused q) o {r} e =
-    let d : ◌≡◌ {A = Answer ℕ} (refused q) (refused r) = e in
-    let z : q ≡ r = cc in rw z
-
-a_place : (a : Answer TlsFound) (o : TlsRawRecord) {n : ℕ} → giving (λ x. x.next) a ≡ accepted n
-    → giving (λ x. o) a ≡ accepted o
-a_place (accepted x) o e = refl
-a_place (refused q) o e = absurd (not_both e refl)
-
--- a record, by where its first message ends
-module _ (s : List ℕ) (o : TlsRawRecord) (e : reading raw s ≡ accepted o) where
-  pub met_refused : {r : Refusal}
-      → giving (λ x. x.next) (first_of o.hdr.record_type o.«data».start (part_of s o.«data»)) ≡ refused r
-      → record_met s ≡ refused r
-  unfolding record_met
-  met_refused d = rw e (no_place (first_of o.hdr.record_type o.«data».start (part_of s o.«data»)) o d)
-
-  pub met_got : {n : ℕ}
-      → giving (λ x. x.next) (first_of o.hdr.record_type o.«data».start (part_of s o.«data»)) ≡ accepted n
-      → record_met s ≡ accepted o
-  unfolding record_met
-  met_got d = rw e (a_place (first_of o.hdr.record_type o.«data».start (part_of s o.«data»)) o d)
 
 abbrev pub plain_end : TlsPlaintext → ℕ
 plain_end p = p.next

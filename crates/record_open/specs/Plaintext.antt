@@ -6,7 +6,7 @@ use Rattle.wire.specs.{pick, part_of}
 use Rattle.grammar.specs.{reading}
 use Rattle.content_walk.specs.{found_at, is_single, messages_of, dropped_of, TlsFound}
 use Rattle.record.specs.{raw, TlsRawRecord, TlsRecordHeader}
-use Rattle.record_open.specs.declared.{OpenedAnswer.OpenedAnswer, PlaintextAnswer.PlaintextAnswer, TlsPlaintext.TlsPlaintext, TlsPlaintextOpened.TlsPlaintextOpened}
+use Rattle.record_open.specs.declared.{TlsPlaintext.TlsPlaintext, TlsPlaintextOpened.TlsPlaintextOpened}
 
 -- RULES 6.5: the first message's refusal is the record's, but Incomplete becomes Complete; in
 -- content that begins at a place
@@ -69,11 +69,3 @@ with_header hdr s = contents (record { hdr = hdr; «data» = record { start = 0;
 -- the record that is opened, without its counts
 unfoldable pub record_met : List ℕ → Answer TlsRawRecord
 record_met s = then (reading raw s) (λ r. giving (λ x. r) (first_of r.hdr.record_type r.«data».start (part_of s r.«data»)))
-
-abbrev pub plaintext_says : PlaintextAnswer → Answer TlsPlaintext
-plaintext_says (PlaintextAnswer.Refused r) = refused r
-plaintext_says (PlaintextAnswer.Got x) = accepted x
-
-abbrev pub opened_says : OpenedAnswer → Answer TlsPlaintextOpened
-opened_says (OpenedAnswer.Refused r) = refused r
-opened_says (OpenedAnswer.Got x) = accepted x

@@ -3,18 +3,15 @@ use Prim.Native.Nat.{ℕ, ◌+◌, ◌≤◌}
 use mathlib.Core.Path.{◌≡◌, refl, sym, ap, ap₂, ◌∙◌}
 use mathlib.Core.Bool.{Bool, true, false}
 use mathlib.Core.Logic.{◌⊎◌, inl, inr}
-use mathlib.Core.List.{List, [], ◌∷◌}
+use mathlib.Core.List.{List}
 use native.Mathlib.Omega.{arith}
 use lib.ListN.{length}
 use lib.Dec.{eqb, ltb}
-use types.Run.{OneOf, miss}
-use denote.Enum.Declared.{tag_of}
+use Rattle.std.specs.Prelude.{Some, None}
 use Rattle.refusal.specs.Answers.{Answer, accepted, refused}
 use Rattle.refusal.specs.declared.Refusal.{Refusal}
 use Rattle.refusal.proofs.Then.{not_both, then_accepted, then_refused}
-use Rattle.wire.specs.Parts.{pick}
-use Rattle.wire.specs.declared.view.OptView.{OptView}
-use Rattle.wire.specs.declared.view.OptView.TheVariants.{Absent, Present}
+use Rattle.wire.specs.Parts.{pick, OptView}
 use Rattle.read_server.specs.declared.tlsv12.TlsServerHelloContents.{TlsServerHelloContents}
 use Rattle.list.specs.Items.{or_no_such}
 use Rattle.list.proofs.Walk.{got, none, rest_on}
@@ -25,7 +22,6 @@ use Rattle.message.specs.declared.handshake.TlsMessageHandshake.TheVariants.{New
 use Rattle.message.specs.declared.handshake.TlsMessageHandshake.TheVariants.{ServerKeyExchange, CertificateRequest, ServerDone}
 use Rattle.message.specs.declared.handshake.TlsMessageHandshake.TheVariants.{CertificateVerify, ClientKeyExchange, Finished}
 use Rattle.message.specs.declared.handshake.TlsMessageHandshake.TheVariants.{CertificateStatus, NextProtocol, KeyUpdate}
-use Rattle.message.specs.contracts.handshake.TlsMessageHandshake.{the_type}
 use Rattle.envelope.specs.Opening.{Met, met_at}
 use Rattle.record_walk.specs.Walks.{next_message, moved}
 use Rattle.record_walk.specs.declared.TlsHandshakeWalk.{TlsHandshakeWalk}
@@ -34,29 +30,9 @@ use Rattle.record_tally.specs.Tally.{cut_off, server_cut, tally, count_of, met_c
 use Rattle.record_tally.specs.Tally.{clients_of, servers_of, cut_of}
 use Rattle.record_tally.specs.declared.HelloTally.{HelloTally}
 
--- the numbers that the code has for the kinds that add nothing
-abbrev numbers : List ℕ
-numbers = 0 ∷ 4 ∷ 5 ∷ 7 ∷ 8 ∷ 9 ∷ 10 ∷ 11 ∷ 12 ∷ 13 ∷ 14 ∷ 15 ∷ 16 ∷ []
-
-pub others : (m : TlsMessageHandshake) (len : ℕ) → OneOf numbers (tag_of the_type m) → count_of m len ≡ tally 0 0 0
-unfolding count_of
-others HelloRequest len k = refl
-others (ClientHello c) len k = absurd (miss numbers 1 tt k)
-others (ServerHello c) len k = absurd (miss numbers 2 tt k)
-others (ServerHelloV13Draft18 c) len k = absurd (miss numbers 3 tt k)
-others (NewSessionTicket c) len k = refl
-others EndOfEarlyData len k = refl
-others (HelloRetryRequest c) len k = absurd (miss numbers 6 tt k)
-others (Certificate c) len k = refl
-others (ServerKeyExchange c) len k = refl
-others (CertificateRequest c) len k = refl
-others (ServerDone v) len k = refl
-others (CertificateVerify v) len k = refl
-others (ClientKeyExchange e) len k = refl
-others (Finished v) len k = refl
-others (CertificateStatus c) len k = refl
-others (NextProtocol c) len k = refl
-others (KeyUpdate n) len k = refl
+-- a tally is its three numbers
+pub of_each : (t : HelloTally) {n m k : ℕ} → t.clients ≡ n → t.servers ≡ m → t.cut ≡ k → t ≡ tally n m k
+of_each t a b c = rw (← a, ← b, ← c)
 
 -- one at most
 abbrev One : HelloTally → Type 0
@@ -64,12 +40,12 @@ One t = (t.clients ≤ 1) × (t.servers ≤ 1) × (t.cut ≤ 1)
 
 cut_one : (e : OptView) (tail len : ℕ) → cut_off e tail len ≤ 1
 unfolding cut_off
-cut_one Absent tail len = go (ltb tail len)
+cut_one None tail len = go (ltb tail len)
   where
     go : (t : Bool) → pick t 1 0 ≤ 1
     go true = omega arith
     go false = omega arith
-cut_one (Present v) tail len = omega arith
+cut_one (Some v) tail len = omega arith
 
 server_one : (c : TlsServerHelloContents) (len : ℕ) → server_cut c len ≤ 1
 unfolding server_cut

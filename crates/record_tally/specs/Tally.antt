@@ -3,7 +3,7 @@
 use Rattle.std.specs.Prelude.{◌+◌, ◌-◌}
 use Rattle.refusal.specs.{ℕ, List, foldr, length, leb, ltb, eqb}
 use Rattle.registry.specs.Versions.{ssl30}
-use Rattle.wire.specs.{pick, be, OptView, Absent, Present}
+use Rattle.wire.specs.{pick, be, OptView, None, Some}
 use Rattle.read_server.specs.{TlsServerHelloContents}
 use Rattle.message.specs.{TlsMessageHandshake, HelloRequest, ClientHello, ServerHello, ServerHelloV13Draft18, NewSessionTicket, EndOfEarlyData, HelloRetryRequest, Certificate, ServerKeyExchange, CertificateRequest, ServerDone, CertificateVerify, ClientKeyExchange, Finished, CertificateStatus, NextProtocol, KeyUpdate}
 use Rattle.envelope.specs.{Met}
@@ -13,8 +13,8 @@ use Rattle.record_tally.specs.declared.HelloTally.{HelloTally}
 -- one where a block of extensions may have been cut off: there is none, and a tail begins within
 -- the body's so many bytes
 unfoldable pub cut_off : OptView → ℕ → ℕ → ℕ
-cut_off Absent tail len = pick (ltb tail len) 1 0
-cut_off (Present v) tail len = 0
+cut_off None tail len = pick (ltb tail len) 1 0
+cut_off (Some v) tail len = 0
 
 -- of a ServerHello: at version 0x0300 none is looked for
 unfoldable pub server_cut : TlsServerHelloContents → ℕ → ℕ

@@ -1,14 +1,14 @@
 // What is counted of a handshake record's hellos, and how much of its body a message lacks.
-#![tactic(auto)]
+#![tactic(auto, using(crate::proofs::Lacks::no_number), unfolding(crate::specs::Tally::count_of, crate::specs::Tally::cut_off, crate::specs::Tally::server_cut))]
 
 ghost use Rattle.std.specs.Prelude.{◌≡◌};
-ghost use Rattle.record_tally.specs.Tally.{count_of, cut_off, hello_tally, lacking_at, server_cut};
+ghost use Rattle.record_tally.specs.Tally.{count_of, cut_off, hello_tally, lacking_at, server_cut, tally};
 
-use message::handshake::{MessageAnswer, TlsMessageHandshake};
+use message::handshake::TlsMessageHandshake;
 use read_server::tlsv12::TlsServerHelloContents;
 use record_walk::TlsHandshakeWalk;
-use wire::number::{NumberAnswer, Width};
-use wire::view::OptView;
+use wire::number::Width;
+use wire::view::View;
 
 // How many messages are ClientHellos, how many ServerHellos, and how many hellos have no extensions
 // and a tail: a block of extensions may have been cut off.
@@ -19,19 +19,27 @@ pub struct HelloTally {
     pub cut: usize,
 }
 
+impl HelloTally {
+    // A tally of that many.
+    fn new(clients: usize, servers: usize, cut: usize) -> Self
+        ensures { result ≡ tally clients servers cut }
+    {
+        HelloTally {
+            clients,
+            servers,
+            cut,
+        }
+    }
+}
+
 // One where no extensions were found and a tail begins within the body's `len` bytes.
-fn cut_off(ext: OptView, tail: usize, len: usize) -> usize
+fn cut_off(ext: Option<View>, tail: usize, len: usize) -> usize
     ensures { result ≡ cut_off ext tail len }
 {
-    match ext {
-        OptView::Absent => {
-            if tail < len {
-                return 1;
-            }
-            0
-        }
-        OptView::Present(_) => 0,
+    if ext.is_none() && tail < len {
+        return 1;
     }
+    0
 }
 
 // The same of a ServerHello: at version 0x0300 no extensions are looked for.
@@ -41,8 +49,7 @@ fn cut_server(c: TlsServerHelloContents, len: usize) -> usize
     if c.version as usize == registry::version::SSL30 {
         return 0;
     }
-    let ext = c.ext;
-    cut_off(ext, c.tail, len)
+    cut_off(c.ext, c.tail, len)
 }
 
 // What a message adds to the tally by its kind, its body being of `len` bytes.
@@ -50,40 +57,19 @@ fn count_kind(m: TlsMessageHandshake, len: usize) -> HelloTally
     ensures { result ≡ count_of m len }
 {
     match m {
-        TlsMessageHandshake::ClientHello(c) => {
-            let ext = c.ext;
-            HelloTally {
-                clients: 1,
-                servers: 0,
-                cut: cut_off(ext, c.tail, len),
-            }
-        }
-        TlsMessageHandshake::ServerHello(c) => HelloTally {
-            clients: 0,
-            servers: 1,
-            cut: cut_server(c, len),
-        },
-        TlsMessageHandshake::ServerHelloV13Draft18(c) => {
-            let ext = c.ext;
-            HelloTally {
-                clients: 0,
-                servers: 1,
-                cut: cut_off(ext, c.tail, len),
-            }
-        }
-        TlsMessageHandshake::HelloRetryRequest(c) => {
-            let ext = c.ext;
-            HelloTally {
-                clients: 0,
-                servers: 0,
-                cut: cut_off(ext, c.tail, len),
-            }
-        }
-        _ => HelloTally {
-            clients: 0,
-            servers: 0,
-            cut: 0,
-        },
+        TlsMessageHandshake::ClientHello(c) => HelloTally::new(1, 0, cut_off(c.ext, c.tail, len)),
+        TlsMessageHandshake::ServerHello(c) => HelloTally::new(0, 1, cut_server(c, len)),
+        TlsMessageHandshake::ServerHelloV13Draft18(c) => HelloTally::new(
+            0,
+            1,
+            cut_off(c.ext, c.tail, len),
+        ),
+        TlsMessageHandshake::HelloRetryRequest(c) => HelloTally::new(
+            0,
+            0,
+            cut_off(c.ext, c.tail, len),
+        ),
+        _ => HelloTally::new(0, 0, 0),
     }
 }
 
@@ -92,30 +78,19 @@ fn count_kind(m: TlsMessageHandshake, len: usize) -> HelloTally
 pub fn count_hellos(s: &[u8]) -> HelloTally
     ensures { result ≡ hello_tally s.now }
 {
-    let mut clients: usize = 0;
-    let mut servers: usize = 0;
-    let mut cut: usize = 0;
+    let mut sum = HelloTally::new(0, 0, 0);
     let mut walk = TlsHandshakeWalk::new();
+    // stays: `list::steps` counts alone, and this loop sums what each message adds.
     loop {
         let walked = walk.next(s);
-        let message = walked.message;
+        let Ok(m) = walked.message else {
+            return sum;
+        };
         walk = walked.walk;
-        match message {
-            MessageAnswer::Refused(_) => {
-                return HelloTally {
-                    clients,
-                    servers,
-                    cut,
-                };
-            }
-            MessageAnswer::Got(m) => {
-                let body = walk.body;
-                let one = count_kind(m, body.len);
-                clients += one.clients;
-                servers += one.servers;
-                cut += one.cut;
-            }
-        }
+        let one = count_kind(m, walk.body.len);
+        sum.clients += one.clients;
+        sum.servers += one.servers;
+        sum.cut += one.cut;
     }
 }
 
@@ -126,15 +101,9 @@ pub fn lacking(s: &[u8], at: usize) -> usize
     ensures { result ≡ lacking_at s.now at }
 {
     let message = wire::view::rest_of(s, at);
-    let announced = match wire::number::parse_be(message, 1, Width::Three) {
-        NumberAnswer::Refused(_) => {
-            return 0;
-        }
-        NumberAnswer::Got(n) => n,
+    let Ok(announced) = wire::number::parse_be(message, 1, Width::Three) else {
+        return 0;
     };
     let there = message.len() - announced.next;
-    if announced.value <= there {
-        return 0;
-    }
-    announced.value - there
+    announced.value.saturating_sub(there)
 }

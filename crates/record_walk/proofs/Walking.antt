@@ -1,28 +1,48 @@
 -- The walk over a record's messages: that of `list/proofs/Walk.antt`, a message being what is found
 -- at a place. Assumes nothing.
 use Prim.Native.Nat.{ℕ, zero, suc, ◌+◌, ◌-◌, ◌*◌, ◌<◌, ◌≤◌}
-use mathlib.Core.Path.{◌≡◌, refl, sym, ap, ◌∙◌}
+use mathlib.Core.Path.{◌≡◌, refl, sym, ◌∙◌}
 use mathlib.Core.Logic.{◌⊎◌, inl, inr}
-use mathlib.Core.List.{List, ◌∷◌}
+use mathlib.Core.List.{List}
 use native.Mathlib.Omega.{arith}
 use lib.ListN.{length}
-use Rattle.refusal.specs.Answers.{Answer, accepted, refused, giving}
+use Rattle.refusal.specs.Answers.{Answer, accepted, refused, then, giving, within}
 use Rattle.refusal.specs.Refusals.{refusal}
 use Rattle.refusal.specs.declared.Reason.TheVariants.{NoSuch}
 use Rattle.refusal.specs.declared.Refusal.{Refusal}
-use Rattle.refusal.proofs.Then.{not_both, then_accepted, then_refused}
+use Rattle.refusal.proofs.Then.{not_both, then_refused}
 use Rattle.list.specs.Items.{items_from, place, or_no_such}
 use Rattle.list.specs.Stopping.{end_of, Takes}
+use Rattle.list.proofs.Stepping.{all_from}
 use Rattle.list.proofs.Stopping.{moves_by, ends_in, stops_by}
-use Rattle.list.proofs.Walk.{Moves, rest, fuel, rest_on, first, go_on, got, none, none_after, place_past}
+use Rattle.list.proofs.Walk.{Moves, rest, first, go_on, got, none, none_after, place_past}
 use Rattle.message.specs.declared.handshake.TlsMessageHandshake.{TlsMessageHandshake}
-use Rattle.envelope.specs.Opening.{Met, met_at}
+use Rattle.envelope.specs.Opening.{Met, met_at, head_at, by_type}
+use Rattle.wire.specs.Parts.{part_of}
 use Rattle.envelope.specs.declared.TlsMessageHead.{TlsMessageHead}
-use Rattle.envelope.proofs.Heads.{met_lies}
-use Rattle.record_walk.specs.Walks.{messages, messages_from, past_all, dropped, met_head, next_message, moved}
+use Rattle.envelope.proofs.Heads.{met_lies, met_no_head, met_no_body, met_got}
+use Rattle.record_walk.specs.Walks.{messages, past_all, dropped, next_message, moved}
 use Rattle.record_walk.specs.Walks.{walk_after}
 use Rattle.record_walk.specs.Walking.{bytes_of_all, Walking}
 use Rattle.record_walk.specs.declared.TlsHandshakeWalk.{TlsHandshakeWalk}
+
+-- a message by its head and then its body
+abbrev by_head : List ℕ → Answer TlsMessageHead → Answer Met
+by_head s a = then a (λ h. giving (λ m. record { head = h; says = m }) (within h.body.start (by_type h.msg_type (part_of s h.body))))
+
+module _ (s : List ℕ) (at : ℕ) where
+  pub met_is : met_at s at ≡ by_head s (head_at s at)
+  met_is = go (head_at s at) refl
+    where
+      body : {h : TlsMessageHead} → head_at s at ≡ accepted h → (b : Answer TlsMessageHandshake)
+          → by_type h.msg_type (part_of s h.body) ≡ b
+          → met_at s at ≡ giving (λ m. record { head = h; says = m }) (within h.body.start b)
+      body e (accepted m) d = met_got s at e d
+      body e (refused r) d = met_no_body s at e d
+
+      go : (a : Answer TlsMessageHead) → head_at s at ≡ a → met_at s at ≡ by_head s a
+      go (accepted h) e = body e (by_type h.msg_type (part_of s h.body)) refl
+      go (refused r) e = met_no_head s at e
 
 abbrev pub behind : Met → ℕ
 behind x = x.head.next
@@ -40,33 +60,6 @@ takes_messages s = record {
 
 pub by_messages : (s : List ℕ) → Moves (met_at s) behind (length s)
 by_messages s = moves_by (takes_messages s)
-
-pub all_from : (s : List ℕ) (at : ℕ) → messages_from s at ≡ left s at
-all_from s at = fuel (by_messages s) (length s) (length s - at) at (omega arith) (omega arith)
-
--- the message that is met at a place, and those behind it
-pub one_more : (s : List ℕ) (at : ℕ) {x : Met} → met_at s at ≡ accepted x → messages_from s at ≡ x
-    ∷ messages_from s (behind x)
-one_more s at {x} e = all_from s at ∙ rest_on (by_messages s) at e ∙ rw (all_from s (behind x))
-
--- a message whose head is handed out was met
-pub head_met : (s : List ℕ) (at : ℕ) {h : TlsMessageHead} → met_head s at ≡ accepted h → (x : Met)
-    × (met_at s at ≡ accepted x) × (behind x ≡ h.next)
-unfolding met_head
-head_met s at {h} e =
-    let t = then_accepted (met_at s at) (λ x. accepted x.head) e in
-    let d : t.0.head ≡ h = cc t.2 in
-    (t.0, t.1, ap (λ (y : TlsMessageHead). y.next) d)
-
-pub head_not_met : (s : List ℕ) (at : ℕ) {r : Refusal} → met_head s at ≡ refused r → met_at s at ≡ refused r
-unfolding met_head
-head_not_met s at {r} e = go (then_refused (met_at s at) (λ x. accepted x.head) e)
-  where
-    go : (met_at s at ≡ refused r) ⊎
-        ((x : Met) × (met_at s at ≡ accepted x) × (◌≡◌ {A = Answer TlsMessageHead} (accepted x.head) (refused r)))
-        → met_at s at ≡ refused r
-    go (inl x) = x
-    go (inr (x, y, z)) = absurd (not_both refl z)
 
 -- where the messages from a place on end
 module _ (s : List ℕ) where
@@ -100,15 +93,15 @@ module _ (s : List ℕ) where
   -- the walk after k calls stands where the message at the place k is met
   stands : (k : ℕ) → or_no_such (met_at s (walk_after k s).next) ≡ place k (messages s)
   unfolding walk_after
-  stands zero = rw (all_from s 0) (sym (first (by_messages s) 0))
+  stands zero = rw (all_from (by_messages s) 0) (sym (first (by_messages s) 0))
   stands (suc k) = go (met_at s (walk_after k s).next) refl (stands k)
     where
       go : (a : Answer Met) → met_at s (walk_after k s).next ≡ a
           → or_no_such (met_at s (walk_after k s).next) ≡ place k (messages s)
           → or_no_such (met_at s (moved s (walk_after k s)).next) ≡ place (suc k) (messages s)
       go (accepted x) e ih =
-          let p : place k (left s 0) ≡ accepted x = rw (← (all_from s 0)) (sym ih ∙ rw e) in
-          rw (moved_on s (walk_after k s) e, all_from s 0) (sym (go_on (by_messages s) k 0 p))
+          let p : place k (left s 0) ≡ accepted x = rw (← (all_from (by_messages s) 0)) (sym ih ∙ rw e) in
+          rw (moved_on s (walk_after k s) e, all_from (by_messages s) 0) (sym (go_on (by_messages s) k 0 p))
       go (refused r) e ih =
           let p : place k (messages s) ≡ refused (refusal NoSuch 0 0) = sym ih ∙ rw e in
           rw (moved_not s (walk_after k s) e, e) (sym (none_after k (messages s) p))

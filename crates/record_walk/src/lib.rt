@@ -1,20 +1,21 @@
 // The walk over the messages of a handshake record, lent as its content.
-#![tactic(auto)]
+#![tactic(auto, using(crate::proofs::Walking::met_is), unfolding(crate::specs::Walks::met_head, crate::specs::Walks::moved, crate::specs::Walks::next_message))]
 
 ghost use Rattle.std.specs.Prelude.{true, ◌≡◌, length};
-ghost use Rattle.message.specs.Messages.{message_says};
 ghost use Rattle.record_walk.specs.Walks.{OpensAny, messages_from, met_head, moved, next_message, past_all, fresh_walk};
-ghost use Rattle.envelope.specs.Opening.{head_says, met_at};
-ghost use Rattle.refusal.specs.Answers.{refused};
+ghost use Rattle.envelope.specs.Opening.{met_at};
+ghost use Rattle.refusal.specs.Answers.{refused, as_answer};
 
-use envelope::HeadAnswer;
-use message::handshake::MessageAnswer;
+use envelope::TlsMessageHead;
+pub use list::steps::Tally;
+use message::handshake::TlsMessageHandshake;
 use refusal::{Reason, Refusal};
 use registry::handshake;
 use wire::view::View;
 
 // Where the walk stands: the body of the message handed out last, empty before the first, and where
 // the next message begins.
+// stays: a value and no iterator, since `Walking` speaks of walks by fields.
 #[derive(Clone, Copy)]
 pub struct TlsHandshakeWalk {
     pub body: View,
@@ -24,7 +25,7 @@ pub struct TlsHandshakeWalk {
 // The message, and the walk moved on; past the last message NoSuch, and the walk as it was.
 #[derive(Clone, Copy)]
 pub struct Walked {
-    pub message: MessageAnswer,
+    pub message: Result<TlsMessageHandshake, Refusal>,
     pub walk: TlsHandshakeWalk,
 }
 
@@ -33,43 +34,35 @@ impl TlsHandshakeWalk {
     pub fn new() -> Self
         ensures { result ≡ fresh_walk }
     {
-        let body = View { start: 0, len: 0 };
-        TlsHandshakeWalk { body, next: 0 }
+        TlsHandshakeWalk {
+            body: View { start: 0, len: 0 },
+            next: 0,
+        }
     }
 
     // Hands out the next message and the walk moved on; the message's views are of its body,
     // `part_of(s, walk.body)` of that walk.
     pub fn next(self, s: &[u8]) -> Walked
-        ensures message_value { message_says result.message ≡ next_message s.now self }
+        ensures message_value { as_answer result.message ≡ next_message s.now self }
         ensures walk_value { result.walk ≡ moved s.now self }
     {
-        let head = match envelope::parse_tls_message_head(s, self.next) {
-            HeadAnswer::Refused(_) => {
-                let message = MessageAnswer::Refused(refusal::refuse(Reason::NoSuch, 0, 0));
-                return Walked {
-                    message,
-                    walk: self,
-                };
-            }
-            HeadAnswer::Got(h) => h,
-        };
-        let body = head.body;
-        match envelope::parse_tls_handshake_body(head.msg_type, wire::view::part_of(s, body)) {
-            MessageAnswer::Refused(_) => {
-                let message = MessageAnswer::Refused(refusal::refuse(Reason::NoSuch, 0, 0));
-                Walked {
-                    message,
-                    walk: self,
-                }
-            }
-            MessageAnswer::Got(m) => {
-                let message = MessageAnswer::Got(m);
-                let walk = TlsHandshakeWalk {
-                    body,
+        if let Ok(head) = envelope::parse_tls_message_head(s, self.next)
+            && let Ok(m) = envelope::parse_tls_handshake_body(
+                head.msg_type,
+                wire::view::part_of(s, head.body),
+            )
+        {
+            return Walked {
+                message: Ok(m),
+                walk: TlsHandshakeWalk {
+                    body: head.body,
                     next: head.next,
-                };
-                Walked { message, walk }
-            }
+                },
+            };
+        }
+        Walked {
+            message: Err(refusal::refuse(Reason::NoSuch, 0, 0)),
+            walk: self,
         }
     }
 }
@@ -78,43 +71,28 @@ impl TlsHandshakeWalk {
 fn opens_any(msg_type: u8) -> bool
     ensures { (result ≡ true → OpensAny msg_type) × (OpensAny msg_type → result ≡ true) }
 {
-    match msg_type {
+    matches!(
+        msg_type,
         handshake::HELLO_REQUEST
-        | handshake::END_OF_EARLY_DATA
-        | handshake::SERVER_KEY_EXCHANGE
-        | handshake::SERVER_DONE..=handshake::CLIENT_KEY_EXCHANGE
-        | handshake::FINISHED => true,
-        _ => false,
-    }
+            | handshake::END_OF_EARLY_DATA
+            | handshake::SERVER_KEY_EXCHANGE
+            | handshake::SERVER_DONE..=handshake::CLIENT_KEY_EXCHANGE | handshake::FINISHED
+    )
 }
 
 // The head of the message that begins at `at`, where the message can be opened. The message itself
 // is not handed out.
-pub fn meet_tls_message(s: &[u8], at: usize) -> HeadAnswer
-    ensures { head_says result ≡ met_head s.now at }
+pub fn meet_tls_message(s: &[u8], at: usize) -> Result<TlsMessageHead, Refusal>
+    ensures { as_answer result ≡ met_head s.now at }
 {
-    let head = match envelope::parse_tls_message_head(s, at) {
-        HeadAnswer::Refused(r) => {
-            return HeadAnswer::Refused(r);
-        }
-        HeadAnswer::Got(h) => h,
-    };
+    let head = envelope::parse_tls_message_head(s, at)?;
     if opens_any(head.msg_type) {
-        return HeadAnswer::Got(head);
+        return Ok(head);
     }
-    let body = head.body;
-    match envelope::parse_tls_handshake_body(head.msg_type, wire::view::part_of(s, body)) {
-        MessageAnswer::Refused(r) => HeadAnswer::Refused(refusal::inside(r, body.start)),
-        MessageAnswer::Got(_) => HeadAnswer::Got(head),
-    }
-}
-
-// How many messages there are, where the last one ends, and why there is none behind it.
-#[derive(Clone, Copy)]
-pub struct Tally {
-    pub count: usize,
-    pub end: usize,
-    pub stop: Refusal,
+    let body = wire::view::part_of(s, head.body);
+    let read = envelope::parse_tls_handshake_body(head.msg_type, body);
+    read.map_err(|r| refusal::inside(r, head.body.start))?;
+    Ok(head)
 }
 
 // Counts the messages from `from` on, up to the first that is refused.
@@ -123,17 +101,5 @@ pub fn count_messages(s: &[u8], from: usize) -> Tally
     ensures end_value { result.end ≡ past_all (messages_from s.now from) from }
     ensures end_value_2 { met_at s.now result.end ≡ refused result.stop }
 {
-    let mut count: usize = 0;
-    let mut end: usize = from;
-    loop {
-        match meet_tls_message(s, end) {
-            HeadAnswer::Refused(stop) => {
-                return Tally { count, end, stop };
-            }
-            HeadAnswer::Got(h) => {
-                end = h.next;
-                count += 1;
-            }
-        }
-    }
+    list::steps::count_to_stop(|at| Ok(meet_tls_message(s, at)?.next), from)
 }

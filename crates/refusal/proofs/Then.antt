@@ -2,13 +2,12 @@
 use Prim.Native.Nat.{ℕ}
 use mathlib.Core.Path.{◌≡◌, refl}
 use mathlib.Core.Logic.{◌⊎◌, inl, inr}
-use native.Mathlib.Omega.{arith}
 use Rattle.refusal.specs.Answers.{Answer, accepted, refused, then, within}
 use Rattle.refusal.specs.declared.Refusal.{Refusal}
 
 -- no answer is both
 pub not_both : {A : Type 0} {a : A} {r : Refusal} {x : Answer A} → x ≡ accepted a → x ≡ refused r → ⊥
-not_both p q = let z : ◌≡◌ {A = ℕ} 0 1 = cc in omega arith
+not_both p q = cc
 
 pub then_accepted : {A B : Type 0} (x : Answer A) (k : A → Answer B) {b : B} → then x k ≡ accepted b → (a : A)
     × (x ≡ accepted a) × (k a ≡ accepted b)

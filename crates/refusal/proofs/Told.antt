@@ -6,7 +6,8 @@ use mathlib.Core.List.{List, [], ◌∷◌}
 use native.Mathlib.Omega.{arith}
 use lib.ListN.{get_or}
 use Rattle.refusal.specs.Refusals.{number_of, refusal, unplaced, inside, NumbersApart}
-use Rattle.refusal.specs.Answers.{Answer, accepted, refused, TellSame, OneResult}
+use Rattle.std.specs.Prelude.{Result, Ok, Err, IsErr, IsErrAnd, IfOk}
+use Rattle.refusal.specs.Answers.{Answer, accepted, refused, as_answer, TellSame, OneResult}
 use Rattle.refusal.specs.declared.Reason.{Reason}
 use Rattle.refusal.specs.declared.Reason.TheVariants.{Incomplete, Complete, Verify, LengthValue, Tag, Switch}
 use Rattle.refusal.specs.declared.Reason.TheVariants.{TooLarge, BadLength, NoRoom, NoSuch}
@@ -85,7 +86,21 @@ told (refused r) (refused r') (n, v) = ap refused (one_refusal r r' (one_reason 
 pub case : {A B : Type 0} (says : B → Answer A) {o x : B} {a : Answer A} → says o ≡ a → o ≡ x → a ≡ says x
 case says e g = sym e ∙ ap says g
 
--- an enum with a way back from what it says loses nothing either
-pub tells_all : {A B : Type 0} (says : B → Answer A) (back : Answer A → B) → ((b : B) → back (says b) ≡ b)
-    → OneResult says
-tells_all says back home x y e = sym (home x) ∙ ap back (told (says x) (says y) e) ∙ home y
+-- a `Result` loses nothing
+pub one_result : {A : Type 0} → OneResult (as_answer {A = A})
+one_result (Ok a) (Ok b) (n, v) = cc
+one_result (Ok a) (Err r) (n, v) = absurd (not_zero_lem r.reason n)
+one_result (Err r) (Ok b) (n, v) = absurd (not_zero_lem r.reason (sym n))
+one_result (Err r) (Err r') (n, v) = ap Err (one_refusal r r' (one_reason r.reason r'.reason n))
+
+-- what `?` hands on says that refusal
+pub hands_on : {A : Type 0} (x : Result A Refusal) {e : Refusal} {a : Answer A} → IsErr x × IsErrAnd x (λ d. d ≡ e)
+    → refused e ≡ a → as_answer x ≡ a
+hands_on (Ok y) (i, j) p = absurd j
+hands_on (Err d) (i, j) p = ap refused j ∙ p
+
+-- and has no value of which anything would have to be shown
+pub no_value : {A : Type 0} (x : Result A Refusal) (e : Refusal) (P : A → Type 0) → IsErr x × IsErrAnd x (λ d. d ≡ e)
+    → IfOk x P
+no_value (Ok y) e P (i, j) = absurd j
+no_value (Err d) e P (i, j) = tt

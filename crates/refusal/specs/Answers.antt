@@ -1,6 +1,6 @@
--- An answer, which is a value or one refusal: RULES 0.1, 9.1, 10.16. Each answer of the code that
--- is an enum has its `Says`, by cases, into this: the table's number and the values.
-use Rattle.std.specs.Prelude.{◌≡◌}
+-- An answer, which is a value or one refusal: RULES 0.1, 9.1, 10.16. `as_answer` takes each
+-- `Result` of the code, by cases, into this: the table's number and the values.
+use Rattle.std.specs.Prelude.{◌≡◌, Result, Ok, Err}
 use Rattle.refusal.specs.Words.{ℕ, Option, none, some}
 use Rattle.refusal.specs.Refusals.{number_of, inside}
 use Rattle.refusal.specs.declared.Refusal.{Refusal}
@@ -8,6 +8,11 @@ use Rattle.refusal.specs.declared.Refusal.{Refusal}
 pub data Answer (A : Type 0) : Type 0 where
   accepted : A → Answer A
   refused : Refusal → Answer A
+
+-- what a `Result` of the code says
+abbrev pub as_answer : {A : Type 0} → Result A Refusal → Answer A
+as_answer (Ok a) = accepted a
+as_answer (Err r) = refused r
 
 -- the table's number: 0 accepted, 1 to 12 a refusal's
 abbrev pub number_in : {A : Type 0} → Answer A → ℕ
@@ -23,7 +28,8 @@ values_in (refused r) = none
 abbrev pub TellSame : {A : Type 0} → Answer A → Answer A → Type 0
 TellSame x y = (number_in x ≡ number_in y) × (values_in x ≡ values_in y)
 
--- an answer of the code loses nothing in its `Says`: equal numbers and equal values are one result
+-- an answer of the code loses nothing in what it says: equal numbers and equal values are one
+-- result
 abbrev pub OneResult : {A B : Type 0} → (B → Answer A) → Type 0
 OneResult {A} {B} says = (x y : B) → TellSame (says x) (says y) → x ≡ y
 

@@ -4,6 +4,6 @@ pub mod Answers
 pub use Rattle.std.specs.Prelude.{◌+◌, ◌-◌, ◌*◌, ◌/◌, ◌%◌, ◌^◌, ◌<◌, ◌≤◌, ◌≡◌, ◌∷◌, ◌++◌, ◌||◌, ◌&&◌, ◌⊎◌}
 pub use Words.{ℕ, zero, suc, Option, none, some, List, [], map, foldl, foldr, Bool, true, false, length, take, drop, get_or, replicate, leb, eqb, ltb}
 pub use Refusals.{number_of, NumbersApart, OneOf, refusal, unplaced, inside}
-pub use Answers.{Answer, accepted, refused, number_in, values_in, OneResult, then, giving, or_else, within}
+pub use Answers.{Answer, accepted, refused, as_answer, number_in, values_in, OneResult, then, giving, or_else, within}
 pub use declared.{Reason.Reason, Refusal.Refusal}
 pub use declared.Reason.TheVariants.{Incomplete, Verify, Complete, NoSuch, Switch, LengthValue, TooLarge, BadLength, NotYetImplemented, Tag, NoRoom}

@@ -1,4 +1,5 @@
 -- The numbers of the table of refusals, and what a refusal is made from: RULES 1.1, 1.3.
+use Rattle.refusal.specs.declared.Refusal.{Refusal}
 use Rattle.std.specs.Prelude.{◌≡◌, ◌⊎◌, ◌∷◌}
 use Rattle.refusal.specs.Words.{ℕ, List, []}
 use Rattle.refusal.specs.declared.{Reason.Reason, Refusal.Refusal}

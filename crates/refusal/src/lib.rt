@@ -5,27 +5,58 @@
 ghost use Rattle.std.specs.Prelude.{◌≡◌};
 ghost use Rattle.refusal.specs.Refusals.{inside, number_of, refusal, unplaced};
 
-// Why a call is refused: rows 1 to 12 of RULES 1.1, in their order; there is no 10.
-#[derive(Clone, Copy)]
+use std::error::Error;
+use std::fmt;
+
+// Why a call is refused: rows 1 to 12 of RULES 1.1, by their numbers; there is no 10.
+#[derive(Clone, Copy, Debug, PartialEq, Eq, Hash)]
 pub enum Reason {
-    Incomplete,
-    Complete,
-    Verify,
-    LengthValue,
-    Tag,
-    Switch,
-    TooLarge,
-    BadLength,
-    NoRoom,
-    NoSuch,
-    NotYetImplemented,
+    Incomplete = 1,
+    Complete = 2,
+    Verify = 3,
+    LengthValue = 4,
+    Tag = 5,
+    Switch = 6,
+    TooLarge = 7,
+    BadLength = 8,
+    NoRoom = 9,
+    NoSuch = 11,
+    NotYetImplemented = 12,
+}
+
+// Prints a reason by its name in the table.
+impl fmt::Display for Reason {
+    fn fmt<W: fmt::Write>(&self, f: &mut fmt::Formatter<W>) -> fmt::Result {
+        f.write_str(match self {
+            Reason::Incomplete => "Incomplete",
+            Reason::Complete => "Complete",
+            Reason::Verify => "Verify",
+            Reason::LengthValue => "LengthValue",
+            Reason::Tag => "Tag",
+            Reason::Switch => "Switch",
+            Reason::TooLarge => "TooLarge",
+            Reason::BadLength => "BadLength",
+            Reason::NoRoom => "NoRoom",
+            Reason::NoSuch => "NoSuch",
+            Reason::NotYetImplemented => "NotYetImplemented",
+        })
+    }
 }
 
 // What a refusal carries: its reason alone.
-#[derive(Clone, Copy)]
+#[derive(Clone, Copy, Debug, PartialEq, Eq, Hash)]
 pub struct Refusal {
     pub reason: Reason,
 }
+
+// Prints a refusal by the name of its reason.
+impl fmt::Display for Refusal {
+    fn fmt<W: fmt::Write>(&self, f: &mut fmt::Formatter<W>) -> fmt::Result {
+        write!(f, "{}", self.reason)
+    }
+}
+
+impl Error for Refusal {}
 
 // The refusal of an item that begins at `at` and lacks `lack` bytes: a refusal carries its reason
 // alone, so both are dropped here.
@@ -55,18 +86,5 @@ pub fn inside(r: Refusal, at: usize) -> Refusal
 pub fn refusal_number(r: Refusal) -> u8
     ensures { result ≡ number_of r.reason }
 {
-    let reason = r.reason;
-    match reason {
-        Reason::Incomplete => 1,
-        Reason::Complete => 2,
-        Reason::Verify => 3,
-        Reason::LengthValue => 4,
-        Reason::Tag => 5,
-        Reason::Switch => 6,
-        Reason::TooLarge => 7,
-        Reason::BadLength => 8,
-        Reason::NoRoom => 9,
-        Reason::NoSuch => 11,
-        Reason::NotYetImplemented => 12,
-    }
+    r.reason as u8
 }

@@ -8,19 +8,17 @@ use native.Mathlib.Omega.{arith}
 use native.Mathlib.Nat.{pow-suc, zero-add, div-add-mod'}
 use lib.ListN.{length, get_or, take, drop, length-append}
 use lib.Seq.{get_or-drop, get_or-take, get_or_at, take-suc}
-use Rattle.refusal.specs.Answers.{Answer, accepted, refused, OneResult}
-use Rattle.refusal.proofs.Told.{tells_all}
+use Rattle.std.specs.Prelude.{Ok, Result}
+use Rattle.refusal.specs.Answers.{Answer, accepted, refused}
 use Rattle.refusal.proofs.Then.{not_both, then_accepted, then_refused}
 use Rattle.refusal.specs.declared.Reason.TheVariants.{Incomplete}
 use Rattle.refusal.specs.declared.Refusal.{Refusal}
 use Rattle.wire.specs.Parts.{part_at}
-use Rattle.wire.specs.Numbers.{Bytes, Below, be, bytes_in, bytes_of, number_at, number_says, EachUndoes}
+use Rattle.wire.specs.Numbers.{Bytes, Below, be, bytes_in, bytes_of, number_at, EachUndoes}
 use Rattle.wire.specs.declared.view.Part.{Part}
 use Rattle.wire.specs.declared.number.Width.{Width}
 use Rattle.wire.specs.declared.number.Width.TheVariants.{One, Two, Three, Four}
 use Rattle.wire.specs.declared.number.Number.{Number}
-use Rattle.wire.specs.declared.number.NumberAnswer.{NumberAnswer}
-use Rattle.wire.specs.declared.number.NumberAnswer.TheVariants.{Refused, Got}
 use Rattle.wire.proofs.Parts.{fits, short, Short}
 
 pub length_bytes : (w n : ℕ) → length (bytes_of w n) ≡ w
@@ -128,17 +126,5 @@ number_short w s at {r} e =
     go (inr (p, q, z)) = absurd (not_both refl z)
 
 -- a number that was found is below the limit of its width
-pub below_limit : (w : ℕ) {a : NumberAnswer} {n : Number} → Below w a → a ≡ Got n → n.value < 256 ^ w
+pub below_limit : (w : ℕ) {a : (Result Number Refusal)} {n : Number} → Below w a → a ≡ Ok n → n.value < 256 ^ w
 below_limit w b g = rw g at b
-
--- equal numbers and values mean equal answers
-abbrev number_back : Answer Number → NumberAnswer
-number_back (accepted a) = Got a
-number_back (refused r) = Refused r
-
-number_home : (a : NumberAnswer) → number_back (number_says a) ≡ a
-number_home (Refused r) = refl
-number_home (Got a) = refl
-
-pub one_number : OneResult number_says
-one_number = tells_all number_says number_back number_home

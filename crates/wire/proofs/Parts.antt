@@ -7,18 +7,15 @@ use mathlib.Core.Bool.{Bool, true, false}
 use borrow.Author.Tests.{leb-true, leb-false, le-leb, lt-leb}
 use lib.ListN.{length}
 use lib.Dec.{leb}
-use Rattle.refusal.specs.Answers.{Answer, accepted, refused, OneResult}
-use Rattle.refusal.proofs.Told.{tells_all}
+use Rattle.refusal.specs.Answers.{Answer, accepted, refused}
 use Rattle.refusal.proofs.Then.{not_both}
 use Rattle.refusal.specs.Refusals.{refusal, unplaced}
 use Rattle.refusal.specs.declared.Reason.{Reason}
 use Rattle.refusal.specs.declared.Reason.TheVariants.{NoRoom}
 use Rattle.refusal.specs.declared.Refusal.{Refusal}
-use Rattle.wire.specs.Parts.{part_or, part_at, part_says}
+use Rattle.wire.specs.Parts.{part_or, part_at}
 use Rattle.wire.specs.Puts.{room_at}
 use Rattle.wire.specs.declared.view.Part.{Part}
-use Rattle.wire.specs.declared.view.PartAnswer.{PartAnswer}
-use Rattle.wire.specs.declared.view.PartAnswer.TheVariants.{Refused, Got}
 
 -- the part of n bytes from a place on
 abbrev pub found : ℕ → ℕ → Part
@@ -96,15 +93,3 @@ pub room_short : (d : List ℕ) (at n : ℕ) {r : Refusal} → room_at d at n �
     × (length d < at + n)
 unfolding room_at
 room_short d at n e = or_short _ d at n e
-
--- equal numbers and values mean equal answers
-abbrev part_back : Answer Part → PartAnswer
-part_back (accepted a) = Got a
-part_back (refused r) = Refused r
-
-part_home : (a : PartAnswer) → part_back (part_says a) ≡ a
-part_home (Refused r) = refl
-part_home (Got a) = refl
-
-pub one_part_lem : OneResult part_says
-one_part_lem = tells_all part_says part_back part_home

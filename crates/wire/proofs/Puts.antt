@@ -1,24 +1,19 @@
 -- Bytes put into a buffer, and a text written or not. Assumes nothing.
 use Prim.Native.Nat.{ℕ, zero, suc, ◌+◌, ◌-◌, ◌/◌, ◌%◌, ◌^◌, ◌<◌, ◌≤◌}
-use mathlib.Core.Path.{◌≡◌, refl, sym, ap, ◌∙◌}
+use mathlib.Core.Path.{◌≡◌, sym, ap, ◌∙◌}
 use mathlib.Core.List.{List, [], ◌∷◌, ◌++◌, append_assoc}
 use native.Mathlib.Omega.{arith}
 use native.Mathlib.Nat.{add-zero}
-use native.Mathlib.Numerals.{add-one}
 use borrow.Author.Tests.{le-leb, lt-leb, le-ltb, lt-ltb}
-use lib.ListN.{length, get_or, take, drop, set, length-append, length-drop, length-set, take-append-drop}
-use lib.Seq.{take_at, drop_at, drop-drop, length-take-le, drop-cons, set_at, take-set-le, drop-set-lt, get_or-set_same}
-use lib.Seq.{take-suc}
-use Rattle.refusal.specs.Answers.{Answer, accepted, refused, OneResult}
-use Rattle.refusal.proofs.Told.{tells_all}
+use lib.ListN.{length, take, drop, set, length-append, length-drop, length-set, take-append-drop}
+use lib.Seq.{take_at, drop_at, drop-drop, length-take-le, drop-cons, take-set-le, drop-set-lt, get_or-set_same}
+use Rattle.refusal.specs.Answers.{Answer, accepted, refused}
 use Rattle.refusal.specs.Refusals.{unplaced}
 use Rattle.refusal.specs.declared.Reason.TheVariants.{BadLength}
 use Rattle.refusal.specs.declared.Refusal.{Refusal}
 use Rattle.wire.specs.Numbers.{bytes_of, number_text}
 use Rattle.wire.specs.declared.view.Part.{Part}
-use Rattle.wire.specs.Puts.{put, room, room_at, written, write_says}
-use Rattle.wire.specs.declared.output.WriteAnswer.{WriteAnswer}
-use Rattle.wire.specs.declared.output.WriteAnswer.TheVariants.{Refused, Wrote}
+use Rattle.wire.specs.Puts.{put, room, room_at, written}
 use Rattle.wire.proofs.Parts.{room_in, room_fits, room_short}
 use Rattle.wire.proofs.Numbers.{length_bytes}
 
@@ -47,29 +42,6 @@ put_put d at xs ys h =
     rw (e, ← drop-drop (length ys) (at + length xs), drop_at (take at d ++ xs) z _ l, drop-drop) in
     let n : at + length (xs ++ ys) ≡ at + length xs + length ys = rw length-append (omega arith) in
     rw (a, b, n) (append_assoc (take at d) xs _ ∙ ap (λ (r : List ℕ). take at d ++ r) (sym (append_assoc xs ys _)))
-
--- one byte more, behind
-set_put : (d : List ℕ) (at : ℕ) (xs : List ℕ) (y : ℕ) → at + length xs < length d
-    → set (put d at xs) (at + length xs) y ≡ put d at (xs ++ (y ∷ []))
-unfolding put
-set_put d at xs y h =
-    let l = front d at xs (omega arith) in
-    let n : at + length (xs ++ (y ∷ [])) ≡ suc (at + length xs) = rw length-append (omega arith) in
-    rw (
-      ← append_assoc (take at d) xs (drop (at + length xs) d),
-      drop-cons d (at + length xs) 0 h,
-      set_at (take at d ++ xs) _ _ y _ l,
-      n,
-    )
-    (simp append_assoc)
-
--- a turn of the copy
-pub copy_next : (d : List ℕ) (at : ℕ) (s : List ℕ) (k : ℕ) → at + length s ≤ length d → k < length s
-    → set (put d at (take k s)) (at + k) (get_or s k 0) ≡ put d at (take (k + 1) s)
-copy_next d at s k h l =
-    let n : length (take k s) ≡ k = length-take-le k s (omega arith) in
-    let e = set_put d at (take k s) (get_or s k 0) (rw n (omega arith)) in
-    rw (add-one, take-suc s k 0 l) (rw n at e)
 
 -- a byte set, and then the bytes before it
 put_set : (d : List ℕ) (at : ℕ) (xs : List ℕ) (y : ℕ) → at + length xs < length d
@@ -144,15 +116,3 @@ number_put w n at d {p} h e = text_in (bytes_of w n) at d {p = p} (number_accept
 pub number_out : (w n at : ℕ) (d : List ℕ) {r : Refusal} → n < 256 ^ w → room_at d at w ≡ refused r
     → Came (number_text w n) at d (refused r) d
 number_out w n at d {r} h e = text_out (bytes_of w n) at d {r = r} (number_accepted w n h) (rw (length_bytes w n) e)
-
--- equal numbers and values mean equal answers
-abbrev write_back : Answer ℕ → WriteAnswer
-write_back (accepted a) = Wrote a
-write_back (refused r) = Refused r
-
-write_home : (a : WriteAnswer) → write_back (write_says a) ≡ a
-write_home (Refused r) = refl
-write_home (Wrote a) = refl
-
-pub one_write_lem : OneResult write_says
-one_write_lem = tells_all write_says write_back write_home

@@ -1,9 +1,10 @@
 -- Numbers of any width, the highest byte first: RULES 2.1, 2.3. RFC 5246 4.1 gives the sum of the
 -- bytes, 4.4 the widths.
-use Rattle.std.specs.Prelude.{◌+◌, ◌*◌, ◌/◌, ◌%◌, ◌^◌, ◌<◌, ◌≤◌, ◌≡◌, ◌∷◌, ◌++◌}
+use Rattle.refusal.specs.declared.Refusal.{Refusal}
+use Rattle.std.specs.Prelude.{◌+◌, ◌*◌, ◌/◌, ◌%◌, ◌^◌, ◌<◌, ◌≤◌, ◌≡◌, ◌∷◌, ◌++◌, Result, IfOk}
 use Rattle.refusal.specs.{ℕ, zero, suc, List, [], length, take, get_or, ltb, unplaced, Answer, accepted, refused, Incomplete, BadLength, giving}
 use Rattle.wire.specs.Parts.{pick, part_at}
-use Rattle.wire.specs.declared.{number.Number.Number, number.NumberAnswer.NumberAnswer, number.Width.Width}
+use Rattle.wire.specs.declared.{number.Number.Number, number.Width.Width}
 use Rattle.wire.specs.declared.number.Width.TheVariants.{One, Two, Three, Four}
 
 -- the widths in use: uint8, uint16, uint24, uint32
@@ -42,14 +43,9 @@ unfoldable pub number_at : ℕ → List ℕ → ℕ → Answer Number
 number_at w s at = giving (λ p. record { value = be w s at; next = p.next }) (part_at Incomplete s at w)
 
 -- a number that was found is one of w bytes
-abbrev pub Below : ℕ → NumberAnswer → Type 0
-Below w (NumberAnswer.Refused r) = Unit
-Below w (NumberAnswer.Got n) = n.value < 256 ^ w
+abbrev pub Below : ℕ → Result Number Refusal → Type 0
+Below w a = IfOk a (λ n. n.value < 256 ^ w)
 
 -- writing: the number's bytes, where w bytes can hold it
 unfoldable pub number_text : ℕ → ℕ → Answer (List ℕ)
 number_text w n = pick (ltb n (256 ^ w)) (accepted (bytes_of w n)) (refused (unplaced BadLength))
-
-abbrev pub number_says : NumberAnswer → Answer Number
-number_says (NumberAnswer.Refused r) = refused r
-number_says (NumberAnswer.Got n) = accepted n

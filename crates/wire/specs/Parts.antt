@@ -2,8 +2,9 @@
 -- does not lie within the bytes gives the empty part.
 use Rattle.std.specs.Prelude.{◌+◌, ◌-◌, ◌∷◌}
 use Rattle.refusal.specs.{ℕ, List, [], Bool, true, false, Option, none, some, length, take, drop, leb, eqb, refusal, Answer, accepted, refused, Reason, Refusal}
-use Rattle.wire.specs.declared.{view.OptView.OptView, view.Part.Part, view.PartAnswer.PartAnswer, view.View.View}
-use Rattle.wire.specs.declared.view.OptView.TheVariants.{Absent, Present}
+use Rattle.std.specs.declared.option.Option as may_be
+use Rattle.std.specs.Prelude.{Some, None}
+use Rattle.wire.specs.declared.{view.Part.Part, view.View.View}
 
 -- the first where the test holds, else the second
 abbrev pub pick : {A : Type 0} → Bool → A → A → A
@@ -28,10 +29,14 @@ lies_in s v = leb (v.start + v.len) (length s)
 abbrev pub part_of : List ℕ → View → List ℕ
 part_of s v = pick (lies_in s v) (take v.len (drop v.start s)) []
 
+-- a part that may be missing, as the code has it
+abbrev pub OptView : Type 0
+OptView = may_be.Option View
+
 -- the bytes of a part that may be missing: a missing one has none
 abbrev pub opt_part_of : List ℕ → OptView → List ℕ
-opt_part_of s Absent = []
-opt_part_of s (Present v) = part_of s v
+opt_part_of s None = []
+opt_part_of s (Some v) = part_of s v
 
 -- the n bytes from a place on, or this refusal
 abbrev pub part_or : Refusal → List ℕ → ℕ → ℕ → Answer Part
@@ -40,7 +45,3 @@ part_or r s at n = pick (leb (at + n) (length s)) (accepted (record { view = rec
 -- in reading: of the n bytes, those past the end are lacking
 unfoldable pub part_at : Reason → List ℕ → ℕ → ℕ → Answer Part
 part_at past s at n = part_or (refusal past at (n - (length s - at))) s at n
-
-abbrev pub part_says : PartAnswer → Answer Part
-part_says (PartAnswer.Refused r) = refused r
-part_says (PartAnswer.Got p) = accepted p

@@ -3,7 +3,7 @@
 use Rattle.std.specs.Prelude.{◌+◌, ◌++◌}
 use Rattle.refusal.specs.{ℕ, List, length, take, drop, leb, unplaced, Answer, accepted, refused, NoRoom}
 use Rattle.wire.specs.Parts.{pick, part_or}
-use Rattle.wire.specs.declared.{output.WriteAnswer.WriteAnswer, view.Part.Part}
+use Rattle.wire.specs.declared.{view.Part.Part}
 
 -- a buffer with bytes put in from a place on
 unfoldable pub put : List ℕ → ℕ → List ℕ → List ℕ
@@ -22,7 +22,3 @@ room (refused r) at d = refused r
 unfoldable pub written : Answer (List ℕ) → ℕ → List ℕ → List ℕ
 written (accepted bs) at d = pick (leb (at + length bs) (length d)) (put d at bs) d
 written (refused r) at d = d
-
-abbrev pub write_says : WriteAnswer → Answer ℕ
-write_says (WriteAnswer.Refused r) = refused r
-write_says (WriteAnswer.Wrote n) = accepted n

@@ -1,16 +1,15 @@
 // Big-endian numbers of 1, 2, 3 and 4 bytes (RFC 5246 4.4), read and written.
 ghost use Rattle.std.specs.Prelude.{◌≡◌, ◌+◌, ◌*◌, ◌/◌, ◌%◌, ◌^◌, ◌≤◌, ◌<◌, ltb, get_or, length};
-ghost use Rattle.wire.specs.Numbers.{be, bytes_of, bytes_in, number_at, number_says, number_text, Below};
-ghost use Rattle.wire.specs.Puts.{put, room, written, write_says};
+ghost use Rattle.wire.specs.Numbers.{be, bytes_of, bytes_in, number_at, number_text, Below};
+ghost use Rattle.wire.specs.Puts.{put, room, written};
+ghost use Rattle.refusal.specs.Answers.{as_answer};
 
-use crate::output::WriteAnswer;
-use crate::view::PartAnswer;
 use refusal::{Reason, Refusal};
 
 // How many bytes a number has.
 #[derive(Clone, Copy)]
 pub enum Width {
-    One,
+    One = 1,
     Two,
     Three,
     Four,
@@ -23,26 +22,15 @@ pub struct Number {
     pub next: usize,
 }
 
-// Holds a number with the place behind it, or the refusal.
-#[derive(Clone, Copy)]
-pub enum NumberAnswer {
-    Refused(Refusal),
-    Got(Number),
-}
-
 // Tells how many bytes a width is.
 pub fn width_bytes(w: Width) -> usize
     ensures { result ≡ bytes_in w }
 {
-    match w {
-        Width::One => 1,
-        Width::Two => 2,
-        Width::Three => 3,
-        Width::Four => 4,
-    }
+    w as usize
 }
 
 // The first number that is too large for the width.
+// stays: a shift by eight times the bytes is no plainer, and four cases need no proof of its bound.
 fn limit(w: Width) -> usize
     ensures { result ≡ 256 ^ bytes_in w }
 {
@@ -70,6 +58,7 @@ fn wide(b: u8) -> usize
 
 // The two bytes from `at` on, the first as the lower one, as most machines load two bytes at once.
 // It stands apart, so that the compiler makes the load before it sees the swap (docs/DECISIONS.md).
+// stays: this and the sums below are slower as one loop over the width (docs/DECISIONS.md).
 fn two_swapped(s: &[u8], at: usize) -> usize
     requires { at + 2 ≤ length s.now }
     ensures { (result % 256 ≡ get_or s.now at 0) × (result / 256 ≡ get_or s.now (at + 1) 0) × (result < 256 ^ 2) }
@@ -118,49 +107,42 @@ fn number_of(s: &[u8], at: usize, count: usize) -> usize
 }
 
 // The number that stands at a place.
-pub fn parse_be(s: &[u8], at: usize, w: Width) -> NumberAnswer
-    ensures result_value { number_says result ≡ number_at (bytes_in w) s.now at }
+pub fn parse_be(s: &[u8], at: usize, w: Width) -> Result<Number, Refusal>
+    ensures result_value { as_answer result ≡ number_at (bytes_in w) s.now at }
     ensures below { Below (bytes_in w) result }
 {
     let count = width_bytes(w);
-    match crate::view::take_or(s, at, count, Reason::Incomplete) {
-        PartAnswer::Refused(r) => NumberAnswer::Refused(r),
-        PartAnswer::Got(p) => NumberAnswer::Got(Number {
-            value: number_of(s, at, count),
-            next: p.next,
-        }),
-    }
+    let p = crate::view::take_or(s, at, count, Reason::Incomplete)?;
+    Ok(Number {
+        value: number_of(s, at, count),
+        next: p.next,
+    })
 }
 
 // Sets the `count` bytes from `at` on to those of `n`.
+// stays: by `iter_mut().rev()` the part would be cut out first, which is no plainer
 fn put_number(out: &mut [u8], at: usize, count: usize, n: usize)
     requires { at + count ≤ length out.old }
     ensures { out.new ≡ put out.old at (bytes_of count n) }
 {
-    let mut left = count;
     let mut m = n;
-    while 0 < left {
-        left -= 1;
-        out[at + left] = (m % 256) as u8;
-        m = m / 256;
+    for k in (0..count).rev() {
+        out[at + k] = (m % 256) as u8;
+        m /= 256;
     }
 }
 
 // Writes `n` at a place: BadLength where the width cannot hold it, then NoRoom. A refusal changes
 // no byte.
-pub fn gen_be(out: &mut [u8], at: usize, w: Width, n: usize) -> WriteAnswer
-    ensures result_value { write_says result ≡ room (number_text (bytes_in w) n) at out.old }
+pub fn gen_be(out: &mut [u8], at: usize, w: Width, n: usize) -> Result<usize, Refusal>
+    ensures result_value { as_answer result ≡ room (number_text (bytes_in w) n) at out.old }
     ensures out_after { out.new ≡ written (number_text (bytes_in w) n) at out.old }
 {
     let count = width_bytes(w);
     if limit(w) <= n {
-        return WriteAnswer::Refused(refusal::unplaced(Reason::BadLength));
+        return Err(refusal::unplaced(Reason::BadLength));
     }
-    match crate::output::room_for(out, at, count) {
-        PartAnswer::Refused(r) => WriteAnswer::Refused(r),
-        PartAnswer::Got(p) => {
-            put_number(out, at, count, n);
-            WriteAnswer::Wrote(p.next)
-        }
-    }
+    let p = crate::output::room_for(out, at, count)?;
+    put_number(out, at, count, n);
+    Ok(p.next)
 }

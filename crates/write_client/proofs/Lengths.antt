@@ -1,8 +1,9 @@
 -- How long a ClientHello that may be written is, and the most that its parts can be: of parts that
 -- are handed over apart, and of those that a value names. Assumes nothing.
 use Prim.Native.Nat.{ℕ, ◌+◌, ◌%◌, ◌≤◌}
-use mathlib.Core.Path.{◌≡◌}
+use mathlib.Core.Path.{◌≡◌, sym, ◌∙◌}
 use mathlib.Core.List.{List}
+use mathlib.Core.Bool.{Bool, true}
 use native.Mathlib.Omega.{arith}
 use borrow.Author.Tests.{eqb-true, leb-true}
 use lib.ListN.{length, length-append}
@@ -12,9 +13,9 @@ use Rattle.field.proofs.Rules.{unless_none}
 use Rattle.read_client.specs.Client.{client}
 use Rattle.read_client.specs.declared.TlsClientHelloContents.{TlsClientHelloContents}
 use Rattle.write_rules.specs.HelloTexts.{hello_bytes}
-use Rattle.write_rules.specs.JoinTexts.{join_bytes}
+use Rattle.write_rules.specs.JoinTexts.{may_join, join_bytes}
 use Rattle.write_rules.proofs.Hellos.{Obeyed}
-use Rattle.write_rules.proofs.Joins.{Joined, in_row, row_join}
+use Rattle.write_rules.proofs.Joins.{Joined, joined, in_row, row_join}
 use Rattle.write_client.specs.Slices.{client_rows, client_parts}
 
 pub record ClientBounds (i c m e : List ℕ) : Type 0 where
@@ -43,6 +44,19 @@ module _ (v : ℕ) (random id ciphers comp ext : List ℕ)
         comp = omega (arith, f.1.1.0.0);
         ext = omega (arith, h.last.0);
       }
+
+-- the same of parts that were found to be writable at any version
+module _ (random id ciphers comp ext : List ℕ) {t : Bool}
+    (w : (v : ℕ) → t ≡ may_join client_rows (client_parts v random id ciphers comp) ext) (m : t ≡ true) where
+  pub may_write : (v : ℕ) → may_join client_rows (client_parts v random id ciphers comp) ext ≡ true
+  may_write v = sym (w v) ∙ m
+
+  pub may_bounds : ClientBounds id ciphers comp ext
+  may_bounds = parts_bounds 0 random id ciphers comp ext (joined _ _ _ (may_write 0))
+
+  pub may_length : (v : ℕ) → 40 + length id + length ciphers + length comp + length ext
+      ≡ length (join_bytes client_rows (client_parts v random id ciphers comp) ext)
+  may_length v = sym (parts_length v random id ciphers comp ext (joined _ _ _ (may_write v)))
 
 module _ (s : List ℕ) (m : TlsClientHelloContents) (h : Obeyed client s m) where
   pub client_length : length (hello_bytes client s m)

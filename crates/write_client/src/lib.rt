@@ -7,37 +7,31 @@ ghost use Rattle.registry.specs.Types.{client_hello_type};
 ghost use Rattle.write_rules.specs.HelloTexts.{hello_text};
 ghost use Rattle.write_rules.specs.JoinTexts.{all_lie, join_bytes, may_join, text_length};
 ghost use Rattle.write_rules.specs.MessageTexts.{head_text, message_text};
-ghost use Rattle.wire.specs.Puts.{put, room, written, write_says};
+ghost use Rattle.wire.specs.Puts.{put, room, written};
 ghost use Rattle.write_client.specs.Slices.{client_parts, client_rows, client_text};
+ghost use Rattle.refusal.specs.Answers.{as_answer};
 
 use field::RuleName;
 use read_client::TlsClientHelloContents;
-use refusal::Reason;
+use refusal::{Reason, Refusal};
 use wire::number::Width;
-use wire::output::WriteAnswer;
-use wire::view::PartAnswer;
 use write_rules::TextAnswer;
 
 // Whether each part may stand in its field; any version may.
+#[tactic(auto, using(crate::proofs::Asked::may_is))]
 fn writable(random: &[u8], id: &[u8], ciphers: &[u8], comp: &[u8], ext: &[u8]) -> bool
     ensures { (v : ℕ) → result ≡ may_join client_rows (client_parts v random.now id.now ciphers.now comp.now) ext.now }
 {
-    if random.len() != registry::limit::RANDOM {
-        return false;
-    }
-    if !field::may_follow(Width::One, RuleName::SessionId, id.len()) {
-        return false;
-    }
-    if !field::may_follow(Width::Two, RuleName::Ciphers, ciphers.len()) {
-        return false;
-    }
-    if !field::may_follow(Width::One, RuleName::Methods, comp.len()) {
-        return false;
-    }
-    field::may_follow(Width::Two, RuleName::Plain, ext.len())
+    random.len() == registry::limit::RANDOM
+        && field::may_follow(Width::One, RuleName::SessionId, id.len())
+        && field::may_follow(Width::Two, RuleName::Ciphers, ciphers.len())
+        && field::may_follow(Width::One, RuleName::Methods, comp.len())
+        && field::may_follow(Width::Two, RuleName::Plain, ext.len())
 }
 
 // The fields in order, from the front of the part that is lent.
+// stays: `let _` drops answers that are known, since there is room; `?` would hand them on.
+// stays: by a loop over a row of pieces each hello is slower (docs/DECISIONS.md).
 fn put_fields(
     version: u16,
     random: &[u8],
@@ -53,16 +47,17 @@ fn put_fields(
     let past_id = 35 + id.len();
     let past_ciphers = past_id + 2 + ciphers.len();
     let past_comp = past_ciphers + 1 + comp.len();
-    wire::number::gen_be(out, 0, Width::Two, version as usize);
-    wire::output::gen_bytes(out, 2, random);
-    field::gen_length_data(out, 34, Width::One, RuleName::SessionId, id);
-    field::gen_length_data(out, past_id, Width::Two, RuleName::Ciphers, ciphers);
-    field::gen_length_data(out, past_ciphers, Width::One, RuleName::Methods, comp);
-    field::gen_length_data(out, past_comp, Width::Two, RuleName::Plain, ext);
+    let _ = wire::number::gen_be(out, 0, Width::Two, version as usize);
+    let _ = wire::output::gen_bytes(out, 2, random);
+    let _ = field::gen_length_data(out, 34, Width::One, RuleName::SessionId, id);
+    let _ = field::gen_length_data(out, past_id, Width::Two, RuleName::Ciphers, ciphers);
+    let _ = field::gen_length_data(out, past_ciphers, Width::One, RuleName::Methods, comp);
+    let _ = field::gen_length_data(out, past_comp, Width::Two, RuleName::Plain, ext);
 }
 
 // Writes a ClientHello whose parts are handed over apart as a message: BadLength, then NoRoom. A
 // refusal changes no byte; with NoRoom the length that the message needs is told.
+// stays: the parts come one by one, as `norrabist_gen_tls_clienthello` has them of C.
 pub fn gen_clienthello(
     version: u16,
     random: &[u8],
@@ -72,68 +67,50 @@ pub fn gen_clienthello(
     ext: &[u8],
     out: &mut [u8],
 ) -> TextAnswer
-    ensures answer_value { write_says result.answer ≡ room (client_text version random.now id.now ciphers.now comp.now ext.now) 0 out.old }
+    ensures answer_value { as_answer result.answer ≡ room (client_text version random.now id.now ciphers.now comp.now ext.now) 0 out.old }
     ensures len_value { result.len ≡ text_length (client_text version random.now id.now ciphers.now comp.now ext.now) }
     ensures out_after { out.new ≡ written (client_text version random.now id.now ciphers.now comp.now ext.now) 0 out.old }
 {
     if !writable(random, id, ciphers, comp, ext) {
-        return TextAnswer {
-            answer: WriteAnswer::Refused(refusal::unplaced(Reason::BadLength)),
-            len: 0,
-        };
+        return TextAnswer::refused(Reason::BadLength);
     }
     let n = 40 + id.len() + ciphers.len() + comp.len() + ext.len();
-    let len = 4 + n;
-    match wire::output::room_for(out, 0, len) {
-        PartAnswer::Refused(r) => TextAnswer {
-            answer: WriteAnswer::Refused(r),
-            len,
-        },
-        PartAnswer::Got(p) => {
-            put_fields(version, random, id, ciphers, comp, ext, &mut out[4..]);
-            write_rules::gen_head(out, registry::handshake::CLIENT_HELLO, n);
-            TextAnswer {
-                answer: WriteAnswer::Wrote(p.next),
-                len,
-            }
-        }
-    }
+    write_rules::gen_message(
+        out,
+        registry::handshake::CLIENT_HELLO,
+        n,
+        |body| put_fields(version, random, id, ciphers, comp, ext, body),
+    )
 }
 
 // Whether all that the hello names lies in the bytes lent.
+#[tactic(auto, using(crate::proofs::Asked::lies_is))]
 fn lies_in(m: TlsClientHelloContents, i: &[u8]) -> bool
     ensures { result ≡ all_lie client i.now m }
 {
-    let id = m.session_id;
-    let ext = m.ext;
-    if !write_rules::lies_in(i, m.random) {
-        return false;
-    }
-    if !write_rules::opt_lies_in(i, id) {
-        return false;
-    }
-    if !write_rules::lies_in(i, m.ciphers) {
-        return false;
-    }
-    if !write_rules::lies_in(i, m.comp) {
-        return false;
-    }
-    write_rules::opt_lies_in(i, ext)
+    write_rules::lies_in(i, m.random)
+        && write_rules::opt_lies_in(i, m.session_id)
+        && write_rules::lies_in(i, m.ciphers)
+        && write_rules::lies_in(i, m.comp)
+        && write_rules::opt_lies_in(i, m.ext)
 }
 
 // Writes a ClientHello as a message: BadLength, then NoRoom. A refusal changes no byte.
-pub fn gen_tls_clienthello(m: TlsClientHelloContents, i: &[u8], out: &mut [u8]) -> WriteAnswer
-    ensures result_value { write_says result ≡ room (message_text (head_text client_hello_type) (hello_text client i.now m)) 0 out.old }
+pub fn gen_tls_clienthello(
+    m: TlsClientHelloContents,
+    i: &[u8],
+    out: &mut [u8],
+) -> Result<usize, Refusal>
+    ensures result_value { as_answer result ≡ room (message_text (head_text client_hello_type) (hello_text client i.now m)) 0 out.old }
     ensures out_after { out.new ≡ written (message_text (head_text client_hello_type) (hello_text client i.now m)) 0 out.old }
 {
     if !lies_in(m, i) {
-        return WriteAnswer::Refused(refusal::unplaced(Reason::BadLength));
+        return Err(refusal::unplaced(Reason::BadLength));
     }
     let random = m.random(i);
     let id = m.session_id(i);
     let ciphers = wire::view::part_of(i, m.ciphers);
     let comp = wire::view::part_of(i, m.comp);
     let ext = m.ext(i);
-    let text = gen_clienthello(m.version, random, id, ciphers, comp, ext, out);
-    text.answer
+    gen_clienthello(m.version, random, id, ciphers, comp, ext, out).answer
 }

@@ -4,68 +4,66 @@
 #![tactic(auto)]
 
 ghost use Rattle.std.specs.Prelude.{◌≡◌};
-ghost use Rattle.wire.specs.Puts.{room, written, write_says};
+ghost use Rattle.wire.specs.Puts.{room, written};
 ghost use Rattle.write_rules.specs.JoinTexts.{text_length};
 ghost use Rattle.write_content.specs.ContentTexts.{alert_text, cipher_spec_text, content_text};
+ghost use Rattle.refusal.specs.Answers.{as_answer};
 
 use content::{TlsMessage, TlsMessageAlert};
-use refusal::Reason;
-use wire::output::WriteAnswer;
+use refusal::{Reason, Refusal};
 use write_message::gen_tls_messagehandshake;
 use write_rules::TextAnswer;
 
 // Writes a ChangeCipherSpec, the byte 01, or answers NoRoom, and tells the length that it needs. A
 // refusal changes no byte.
 pub fn gen_changecipherspec(out: &mut [u8]) -> TextAnswer
-    ensures answer_value { write_says result.answer ≡ room cipher_spec_text 0 out.old }
+    ensures answer_value { as_answer result.answer ≡ room cipher_spec_text 0 out.old }
     ensures len_value { result.len ≡ text_length cipher_spec_text }
     ensures out_after { out.new ≡ written cipher_spec_text 0 out.old }
 {
-    let byte: [u8; 1] = [1];
-    let answer = wire::output::gen_bytes(out, 0, &byte);
-    TextAnswer { answer, len: 1 }
+    TextAnswer {
+        answer: wire::output::gen_bytes(out, 0, &[1]),
+        len: 1,
+    }
 }
 
 // Writes an alert, its level and its description: BadLength where the level is neither 1 nor 2,
 // then NoRoom, with which the length is told. A refusal changes no byte.
 pub fn gen_alert(severity: u8, code: u8, out: &mut [u8]) -> TextAnswer
-    ensures answer_value { write_says result.answer ≡ room (alert_text severity code) 0 out.old }
+    ensures answer_value { as_answer result.answer ≡ room (alert_text severity code) 0 out.old }
     ensures len_value { result.len ≡ text_length (alert_text severity code) }
     ensures out_after { out.new ≡ written (alert_text severity code) 0 out.old }
 {
     if !content::one_or_two(severity as usize) {
-        return TextAnswer {
-            answer: WriteAnswer::Refused(refusal::unplaced(Reason::BadLength)),
-            len: 0,
-        };
+        return TextAnswer::refused(Reason::BadLength);
     }
-    let bytes: [u8; 2] = [severity, code];
-    let answer = wire::output::gen_bytes(out, 0, &bytes);
-    TextAnswer { answer, len: 2 }
+    TextAnswer {
+        answer: wire::output::gen_bytes(out, 0, &[severity, code]),
+        len: 2,
+    }
 }
 
 // Writes a ChangeCipherSpec, or answers NoRoom. A refusal changes no byte.
-pub fn gen_tls_changecipherspec(out: &mut [u8]) -> WriteAnswer
-    ensures result_value { write_says result ≡ room cipher_spec_text 0 out.old }
+pub fn gen_tls_changecipherspec(out: &mut [u8]) -> Result<usize, Refusal>
+    ensures result_value { as_answer result ≡ room cipher_spec_text 0 out.old }
     ensures out_after { out.new ≡ written cipher_spec_text 0 out.old }
 {
-    let spec = gen_changecipherspec(out);
-    spec.answer
+    gen_changecipherspec(out).answer
 }
 
 // Writes an alert: BadLength, then NoRoom. A refusal changes no byte.
-pub fn gen_tls_alert(m: TlsMessageAlert, out: &mut [u8]) -> WriteAnswer
-    ensures result_value { write_says result ≡ room (alert_text m.severity m.code) 0 out.old }
+pub fn gen_tls_alert(m: TlsMessageAlert, out: &mut [u8]) -> Result<usize, Refusal>
+    ensures result_value { as_answer result ≡ room (alert_text m.severity m.code) 0 out.old }
     ensures out_after { out.new ≡ written (alert_text m.severity m.code) 0 out.old }
 {
-    let alert = gen_alert(m.severity, m.code, out);
-    alert.answer
+    gen_alert(m.severity, m.code, out).answer
 }
 
 // Writes a message of any record type, its views being of `i`: NotYetImplemented, then BadLength,
 // then NoRoom. A refusal changes no byte.
-pub fn gen_tls_message(m: TlsMessage, i: &[u8], out: &mut [u8]) -> WriteAnswer
-    ensures result_value { write_says result ≡ room (content_text i.now m) 0 out.old }
+// stays: a `match` by the kind is plainer than functions in a table
+pub fn gen_tls_message(m: TlsMessage, i: &[u8], out: &mut [u8]) -> Result<usize, Refusal>
+    ensures result_value { as_answer result ≡ room (content_text i.now m) 0 out.old }
     ensures out_after { out.new ≡ written (content_text i.now m) 0 out.old }
 {
     match m {
@@ -73,7 +71,7 @@ pub fn gen_tls_message(m: TlsMessage, i: &[u8], out: &mut [u8]) -> WriteAnswer
         TlsMessage::ChangeCipherSpec => gen_tls_changecipherspec(out),
         TlsMessage::Alert(a) => gen_tls_alert(a, out),
         TlsMessage::ApplicationData(_) | TlsMessage::Heartbeat(_) => {
-            WriteAnswer::Refused(refusal::unplaced(Reason::NotYetImplemented))
+            Err(refusal::unplaced(Reason::NotYetImplemented))
         }
     }
 }

@@ -16,12 +16,12 @@ use Rattle.refusal.specs.declared.Reason.TheVariants.{BadLength, Incomplete, Not
 use Rattle.refusal.specs.declared.Refusal.{Refusal}
 use Rattle.refusal.proofs.Then.{not_both, then_accepted, then_refused, either}
 use Rattle.wire.specs.Parts.{pick, lies_in, part_of}
-use Rattle.wire.specs.Puts.{put, room, room_at, written}
+use Rattle.wire.specs.Puts.{put, room, written}
 use Rattle.wire.specs.Numbers.{bytes_of, number_text}
 use Rattle.wire.specs.declared.view.Part.{Part}
 use Rattle.wire.proofs.Parts.{found, fits, room_in}
 use Rattle.wire.proofs.Numbers.{length_bytes}
-use Rattle.wire.proofs.Puts.{text_in, text_refused, put_nil, length_put, written_in, number_accepted}
+use Rattle.wire.proofs.Puts.{text_in, put_nil, length_put, written_in, number_accepted}
 use Rattle.field.specs.Fields.{fixed, sized, step}
 use Rattle.field.specs.Standing.{field_bytes}
 use Rattle.field.specs.Texts.{allowed}
@@ -33,7 +33,7 @@ use Rattle.read_ext.specs.Extensions.{number_there}
 use Rattle.read_ext.specs.Splits.{data_bytes, ext_bytes}
 use Rattle.write_rules.specs.MessageTexts.{view_text, message_text}
 use Rattle.write_rules.proofs.Fields.{Left, begin, next}
-use Rattle.write_rules.proofs.Messages.{Wrote, Message, not_wrote, body_fits, no_room, wrote, message_by}
+use Rattle.write_rules.proofs.Messages.{Message, message_not, body_fits, whole_is, length_whole, message_by}
 use Rattle.write_ext.specs.ExtTexts.{may_stand, ext_text, join_texts, capped, row_of, row_from, rows, row_text, raw_row}
 use Rattle.write_ext.specs.ExtTexts.{joined_in, rows_text, RowsFit}
 use Rattle.write_ext.specs.declared.rows.Row.{Row}
@@ -51,7 +51,7 @@ failed true a r e = absurd (not_both e refl)
 failed false a r e = (refl, e)
 
 -- what an answer made of another says of it
-giving_accepted : {A B : Type 0} (make : A → B) (x : Answer A) {b : B} → giving make x ≡ accepted b → (a : A)
+pub giving_accepted : {A B : Type 0} (make : A → B) (x : Answer A) {b : B} → giving make x ≡ accepted b → (a : A)
     × (x ≡ accepted a) × (b ≡ make a)
 giving_accepted make (accepted a) {b} e = let d : accepted (make a) ≡ accepted b = e in (a, refl, cc)
 giving_accepted make (refused r) e = absurd (not_both e refl)
@@ -399,20 +399,32 @@ module _ (v s d : List ℕ) where
               same = rw o (length_put out to n.0 p.1) ∙ y.same;
             }
 
--- a text that may not be written
-wrote_not : {t : Answer (List ℕ)} (d : List ℕ) {r : Refusal} → t ≡ refused r → Wrote t d (refused r) 0 d
-wrote_not d e = let c = text_refused 0 d e in (sym c.says, (rw e, sym c.leaves))
-
--- writing the text of all rows: a raw one is among them, or bytes are left behind the last
-module _ (v s d : List ℕ) {r : Refusal} where
-  pub all_raw : raw_row (rows v) ≡ true → r ≡ unplaced NotYetImplemented → Wrote (rows_text v s) d (refused r) 0 d
+-- the text of all rows: a raw one is among them, or bytes are left behind the last
+module _ (v s : List ℕ) where
+  pub all_raw : raw_row (rows v) ≡ true → rows_text v s ≡ refused (unplaced NotYetImplemented)
   unfolding rows_text
-  all_raw n z = wrote_not d (rw (n, z))
+  all_raw n = rw n
 
-  pub all_odd : raw_row (rows v) ≡ false → (length v % 10 ≡ 0 → ⊥) → r ≡ unplaced BadLength
-      → Wrote (rows_text v s) d (refused r) 0 d
+  pub all_odd : raw_row (rows v) ≡ false → (length v % 10 ≡ 0 → ⊥) → rows_text v s ≡ refused (unplaced BadLength)
   unfolding rows_text
-  all_odd n h z = wrote_not d (rw (n, ne_eqb (length v % 10) 0 h, z))
+  all_odd n h = rw (n, ne_eqb (length v % 10) 0 h)
+
+  cap_bad : (bs : List ℕ) {r : Refusal} → capped bs ≡ refused r → r ≡ unplaced BadLength
+  unfolding capped
+  cap_bad bs {r} e = go (allowed (sized 2) (length bs)) e
+    where
+      go : (t : Bool) → pick t (accepted bs) (refused (unplaced BadLength)) ≡ refused r → r ≡ unplaced BadLength
+      go true q = absurd (not_both refl q)
+      go false q = let d : ◌≡◌ {A = Answer (List ℕ)} (refused (unplaced BadLength)) (refused r) = q in cc
+
+  joined_bad : {r : Refusal} → raw_row (rows v) ≡ false → joined_in v s ≡ refused r → r ≡ unplaced BadLength
+  unfolding joined_in
+  joined_bad {r} n e = go (then_refused (texts s (rows v)) capped e)
+    where
+      go : (texts s (rows v) ≡ refused r) ⊎ ((b : List ℕ) × (texts s (rows v) ≡ accepted b) × (capped b ≡ refused r))
+          → r ≡ unplaced BadLength
+      go (inl q) = texts_bad s (rows v) n q
+      go (inr (b, q, f)) = cap_bad b f
 
 -- or they are joined behind their length, as a message's body behind its head
 module _ (v s : List ℕ) (n : raw_row (rows v) ≡ false) (h : length v % 10 ≡ 0) where
@@ -425,9 +437,10 @@ module _ (v s : List ℕ) (n : raw_row (rows v) ≡ false) (h : length v % 10 �
       go (accepted b) e = rw (number_accepted 2 (length b) (omega (arith, (joined_is v s e).1)))
       go (refused r) e = refl
 
-  pub all_refused : (d : List ℕ) {r : Refusal} → giving length (joined_in v s) ≡ refused r
-      → Wrote (rows_text v s) d (refused r) 0 d
-  all_refused d q = rw all_is (not_wrote (number_text 2) d (none_given length (joined_in v s) q))
+  pub all_refused : {r : Refusal} → giving length (joined_in v s) ≡ refused r → rows_text v s ≡ refused (unplaced BadLength)
+  all_refused q =
+      let e = none_given length (joined_in v s) q in
+      rw all_is (message_not (number_text 2) (e ∙ ap refused (joined_bad v s n e)))
 
 module _ (v s : List ℕ) {k : ℕ} (q : giving length (joined_in v s) ≡ accepted k) where
   -- two bytes can hold their length
@@ -436,7 +449,7 @@ module _ (v s : List ℕ) {k : ℕ} (q : giving length (joined_in v s) ≡ accep
       let g = giving_accepted length (joined_in v s) q in
       omega (arith, g.2, (joined_is v s g.1).1)
 
-  message : (bs : List ℕ) × Message (number_text 2) 2 (joined_in v s) bs k
+  abbrev message : (bs : List ℕ) × Message (number_text 2) 2 (joined_in v s) bs k
   message =
       let g = giving_accepted length (joined_in v s) q in
       let h : k < 65536 = omega (arith, all_short) in (
@@ -451,17 +464,24 @@ module _ (v s : List ℕ) {k : ℕ} (q : giving length (joined_in v s) ≡ accep
       )
 
   -- there is room for them behind it
-  pub all_fit : (d : List ℕ) {p : Part} → room_at d 0 (2 + k) ≡ accepted p → RowsFit v s (mid_of 2 (length d - 2) d)
-  all_fit d {p} f = let m = message in (m.0, m.1.is, body_fits d m.1 {p = p} f)
+  pub all_fit : (d : List ℕ) → 2 + k ≤ length d → RowsFit v s (mid_of 2 (length d - 2) d)
+  all_fit d h = let m = message in (m.0, m.1.is, body_fits d m.1 (room_in d 0 (2 + k) (omega arith)))
 
-  module _ (d : List ℕ) (n : raw_row (rows v) ≡ false) (h : length v % 10 ≡ 0) where
-    pub all-out : {r : Refusal} → room_at d 0 (2 + k) ≡ refused r → Wrote (rows_text v s) d (refused r) (2 + k) d
-    all-out {r} f = rw (all_is v s n h) (no_room d message.1 {r = r} refl f)
+  module _ (n : raw_row (rows v) ≡ false) (h : length v % 10 ≡ 0) where
+    -- the bytes of all
+    abbrev pub all_bytes : List ℕ
+    all_bytes = bytes_of 2 k ++ message.0
 
-    pub all_in : {p : Part} (ys out : List ℕ) → room_at d 0 (2 + k) ≡ accepted p
+    pub all-are : rows_text v s ≡ accepted all_bytes
+    all-are = all_is v s n h ∙ whole_is [] message.1
+
+    pub all-long : 2 + k ≡ length all_bytes
+    all-long = sym (length_whole [] message.1)
+
+    pub all_in : (d ys out : List ℕ) → 2 + k ≤ length d
         → ys ≡ written (joined_in v s) 0 (mid_of 2 (length d - 2) d)
         → out ≡ written (number_text 2 k) 0 (put_mid 2 (length d - 2) d ys)
-        → Wrote (rows_text v s) d (accepted p.next) (2 + k) out
-    all_in {p} ys out f y o =
+        → out ≡ written (rows_text v s) 0 d
+    all_in d ys out f y o =
         let m = message in
-        rw (all_is v s n h) (wrote d m.1 refl (message_by d m.1 {p = p} ys out m.1.is f y o))
+        rw (all_is v s n h) (sym (message_by d m.1 ys out m.1.is (room_in d 0 (2 + k) (omega arith)) y o).leaves)

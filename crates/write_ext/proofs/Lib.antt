@@ -2,4 +2,3 @@ pub mod OneText
 pub mod AllRows
 pub mod WholeLists
 pub mod RowLists
-pub mod Answers

@@ -36,9 +36,7 @@ use Rattle.read_ext.specs.declared.TlsExtension.{TlsExtension}
 use Rattle.read_ext.specs.declared.TlsExtension.TheVariants.{SNI, MaxFragmentLength, EllipticCurves, Unknown}
 use Rattle.read_ext.specs.Splits.{data_bytes, ext_bytes}
 use Rattle.read_ext.proofs.OfKind.{kind_raw}
-use Rattle.write_rules.specs.JoinTexts.{text_length}
 use Rattle.write_rules.specs.MessageTexts.{view_text}
-use Rattle.write_rules.proofs.Messages.{Wrote}
 use Rattle.write_ext.specs.ExtTexts.{may_stand, ext_text, value_text, name_text}
 
 -- a type that is none of the three
@@ -199,15 +197,6 @@ made t c {n} e = go (is_raw t) (may_stand t c) refl refl
         sym e ∙ sym (length_made t c x y refl) in
         record { is = text_made t c x y; long = cc; short = stands_short t c y }
 
--- the length told of a text
-pub told_none : (t : ℕ) (c : List ℕ) {r : Refusal} → giving length (ext_text t c) ≡ refused r
-    → text_length (ext_text t c) ≡ 0
-told_none t c e = rw (none_given length (ext_text t c) e)
-
-pub told_made : (t : ℕ) (c : List ℕ) {n : ℕ} → giving length (ext_text t c) ≡ accepted n
-    → text_length (ext_text t c) ≡ n
-told_made t c e = let m = made t c e in rw m.is (ext_length t c ∙ sym m.long)
-
 -- bytes put in, and a text behind them
 put_next : (d : List ℕ) (at : ℕ) (x y : List ℕ) {t : Answer (List ℕ)} (o o' : List ℕ) (at' : ℕ)
     → at + (length x + length y) ≤ length d → o ≡ put d at x → t ≡ accepted y → at' ≡ at + length x
@@ -310,37 +299,18 @@ module _ (s : List ℕ) {m : TlsExtension} where
   unfolding value_text
   value_raw e = rw e
 
--- an entry of a list of server names: the name is too long, there is no room, or it is put in
-module _ (t : ℕ) (p : List ℕ) (d : List ℕ) {b : Bool} (e : b ≡ allowed (sized 2) (length p)) where
-  pub name_not : {r : Refusal} → not b ≡ true → r ≡ unplaced BadLength → Wrote (name_text t p) d (refused r) 0 d
+-- an entry of a list of server names: the name is too long, or it is its bytes
+module _ (t : ℕ) (p : List ℕ) where
+  pub name_not : allowed (sized 2) (length p) ≡ false → name_text t p ≡ refused (unplaced BadLength)
   unfolding name_text
-  name_not n q =
-      let x : name_text t p ≡ refused (unplaced BadLength) = rw (text_not (sized 2) p (sym e ∙ not-true b n)) in
-      let c = text_refused 0 d (x ∙ ap refused (sym q)) in
-      (sym c.says, (rw x, sym c.leaves))
+  name_not e = rw (text_not (sized 2) p e)
 
-  module _ (n : not b ≡ false) where
-    name_is : name_text t p ≡ accepted (bytes_of 1 t ++ field_bytes (sized 2) p)
-    unfolding name_text
-    name_is = rw (text_may (sized 2) p (sym e ∙ not-false b n))
+  pub name_is : allowed (sized 2) (length p) ≡ true → name_text t p ≡ accepted (bytes_of 1 t ++ field_bytes (sized 2) p)
+  unfolding name_text
+  name_is e = rw (text_may (sized 2) p e)
 
-    name_long : length (bytes_of 1 t ++ field_bytes (sized 2) p) ≡ 3 + length p
-    name_long = rw length-append (omega (arith, length_bytes 1 t, length_vector 2 (rule_of Plain) p))
+  pub name_short : allowed (sized 2) (length p) ≡ true → length p < 65536
+  name_short e = (obeys (sized 2) p e).0
 
-    name-told : 3 + length p ≡ text_length (name_text t p)
-    name-told = rw name_is (sym name_long)
-
-    pub name_out : {r : Refusal} → room_at d 0 (3 + length p) ≡ refused r
-        → Wrote (name_text t p) d (refused r) (3 + length p) d
-    name_out {r} q =
-        let c = text_out (bytes_of 1 t ++ field_bytes (sized 2) p) 0 d {r = r} name_is (rw name_long q) in
-        (sym c.says, (name-told, sym c.leaves))
-
-    pub name_in : {x : Part} (o o' : List ℕ) → t < 256 → room_at d 0 (3 + length p) ≡ accepted x
-        → o ≡ written (number_text 1 t) 0 d → o' ≡ written (field_text (sized 2) p) 1 o
-        → Wrote (name_text t p) d (accepted x.next) (3 + length p) o'
-    name_in {x} o o' k q e₁ e₂ =
-        let c = text_in (bytes_of 1 t ++ field_bytes (sized 2) p) 0 d {p = x} name_is (rw name_long q) in
-        let l = (obeys (sized 2) p (sym e ∙ not-false b n)).0 in
-        let w = tag_put 1 t p d 0 o o' k l (omega (arith, (room_fits d 0 (3 + length p) q).inside)) e₁ e₂ in
-        (sym c.says, (name-told, w ∙ sym c.leaves))
+  pub name_long : 3 + length p ≡ length (bytes_of 1 t ++ field_bytes (sized 2) p)
+  name_long = rw length-append (omega (arith, length_bytes 1 t, length_vector 2 (rule_of Plain) p))

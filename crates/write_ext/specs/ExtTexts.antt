@@ -12,7 +12,7 @@ use Rattle.registry.specs.Extensions.{server_name_ext, max_fragment_length_ext, 
 use Rattle.read_ext.specs.Extensions.{number_there}
 use Rattle.read_ext.specs.Splits.{data_bytes, ext_bytes}
 use Rattle.write_rules.specs.MessageTexts.{view_text}
-use Rattle.write_ext.specs.declared.{LengthAnswer.LengthAnswer, rows.Row.Row, rows.RowAnswer.RowAnswer}
+use Rattle.write_ext.specs.declared.{rows.Row.Row}
 
 -- content may be written, `IsExt` as a test: the kind takes it, and two bytes can hold the length
 -- of the data
@@ -22,10 +22,6 @@ may_stand t c = allowed (kind_of t (length c)).field (length c) && ((kind_of t (
 -- RULES 11.11: NotYetImplemented for a raw one, then BadLength
 unfoldable pub ext_text : ℕ → List ℕ → Answer (List ℕ)
 ext_text t c = pick (is_raw t) (refused (unplaced NotYetImplemented)) (pick (may_stand t c) (accepted (ext_bytes (t, c))) (refused (unplaced BadLength)))
-
-abbrev pub length_says : LengthAnswer → Answer ℕ
-length_says (LengthAnswer.Refused r) = refused r
-length_says (LengthAnswer.Got n) = accepted n
 
 -- an extension as a value: its views are of the bytes lent with it
 unfoldable pub value_text : List ℕ → TlsExtension → Answer (List ℕ)
@@ -71,10 +67,6 @@ row_from v at = giving (row_of v) (step (fixed row_length) v at)
 
 abbrev pub rows : List ℕ → List Row
 rows v = items_from (length v) (row_from v) (λ r. r.next) 0
-
-abbrev pub row_says : RowAnswer → Answer Row
-row_says (RowAnswer.Refused r) = refused r
-row_says (RowAnswer.Got r) = accepted r
 
 -- the text of a row: NotYetImplemented, then BadLength, also where its content lies outside
 unfoldable pub row_text : List ℕ → Row → Answer (List ℕ)

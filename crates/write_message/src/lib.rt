@@ -2,12 +2,12 @@
 #![tactic(auto)]
 
 ghost use Rattle.std.specs.Prelude.{◌≡◌};
-ghost use Rattle.wire.specs.Puts.{room, written, write_says};
+ghost use Rattle.wire.specs.Puts.{room, written};
 ghost use Rattle.write_message.specs.Written.{handshake_text};
+ghost use Rattle.refusal.specs.Answers.{as_answer};
 
 use message::handshake::TlsMessageHandshake;
-use refusal::Reason;
-use wire::output::WriteAnswer;
+use refusal::{Reason, Refusal};
 use write_client::gen_tls_clienthello;
 use write_draft18::gen_tls_serverhellodraft18;
 use write_others::{gen_tls_clientkeyexchange, gen_tls_finished, gen_tls_hellorequest};
@@ -15,8 +15,13 @@ use write_server::gen_tls_serverhello;
 
 // Writes any message, its views being of `i`: NotYetImplemented, then BadLength, then NoRoom. A
 // refusal changes no byte.
-pub fn gen_tls_messagehandshake(m: TlsMessageHandshake, i: &[u8], out: &mut [u8]) -> WriteAnswer
-    ensures result_value { write_says result ≡ room (handshake_text i.now m) 0 out.old }
+// stays: a `match` by the kind is plainer than functions in a table.
+pub fn gen_tls_messagehandshake(
+    m: TlsMessageHandshake,
+    i: &[u8],
+    out: &mut [u8],
+) -> Result<usize, Refusal>
+    ensures result_value { as_answer result ≡ room (handshake_text i.now m) 0 out.old }
     ensures out_after { out.new ≡ written (handshake_text i.now m) 0 out.old }
 {
     match m {
@@ -26,6 +31,6 @@ pub fn gen_tls_messagehandshake(m: TlsMessageHandshake, i: &[u8], out: &mut [u8]
         TlsMessageHandshake::ServerHelloV13Draft18(c) => gen_tls_serverhellodraft18(c, i, out),
         TlsMessageHandshake::ClientKeyExchange(k) => gen_tls_clientkeyexchange(k, i, out),
         TlsMessageHandshake::Finished(v) => gen_tls_finished(v, i, out),
-        _ => WriteAnswer::Refused(refusal::unplaced(Reason::NotYetImplemented)),
+        _ => Err(refusal::unplaced(Reason::NotYetImplemented)),
     }
 }

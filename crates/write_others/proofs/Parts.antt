@@ -8,13 +8,12 @@ use native.Mathlib.Omega.{arith}
 use native.Mathlib.Nat.{pow-le-pow_right}
 use borrow.Author.Tests.{ltb-true, not-true, not-false}
 use lib.ListN.{length}
-use lib.Dec.{ltb}
 use Rattle.refusal.specs.Answers.{Answer, accepted, refused, then}
 use Rattle.refusal.specs.Refusals.{unplaced}
 use Rattle.refusal.specs.declared.Reason.TheVariants.{BadLength}
 use Rattle.refusal.specs.declared.Refusal.{Refusal}
 use Rattle.wire.specs.Parts.{pick, part_of, lies_in}
-use Rattle.wire.specs.Numbers.{bytes_of, number_text}
+use Rattle.wire.specs.Numbers.{bytes_of}
 use Rattle.wire.specs.Puts.{room, written}
 use Rattle.wire.specs.declared.view.View.{View}
 use Rattle.wire.proofs.Puts.{Came, text_refused}
@@ -28,8 +27,9 @@ use Rattle.grammar.specs.Grammars.{as_view}
 use Rattle.write_rules.specs.HelloTexts.{may_stand}
 use Rattle.write_rules.specs.MessageTexts.{head_text, message_text, view_text, sized_text}
 use Rattle.write_rules.proofs.Messages.{Message, Wrote, ensured, head_bytes, head_is, message_is, message_refused}
-use Rattle.write_rules.proofs.Messages.{not_wrote, same_text, short_head}
-use Rattle.write_others.specs.Exchange.{form_text}
+use Rattle.write_rules.proofs.Messages.{same_text, short_head}
+use Rattle.write_others.specs.Exchange.{part_text}
+use Rattle.write_others.specs.declared.Form.TheVariants.{Raw}
 
 -- a message with an empty body is its head
 pub empty : (msgType : ℕ) → head_text msgType 0 ≡ message_text (head_text msgType) (accepted [])
@@ -37,32 +37,8 @@ empty msgType =
     let h = head_is msgType 0 (omega arith) in
     h ∙ sym (message_is (head_text msgType) (head_bytes msgType 0) [] h refl ∙ rw append-nil)
 
--- the part itself: its length is too large for the head, or it is a message
-module _ (msgType : ℕ) (p : List ℕ) where
-  pub whole_refused : (d : List ℕ) {t : Bool} {r : Refusal} → t ≡ ltb (length p) (256 ^ 3) → not t ≡ true
-      → r ≡ unplaced BadLength → Wrote (message_text (head_text msgType) (accepted p)) d (refused r) 0 d
-  unfolding message_text head_text number_text
-  whole_refused d {t} m n q =
-      let e : message_text (head_text msgType) (accepted p) ≡ refused (unplaced BadLength) =
-      rw (sym m ∙ not-true t n) in
-      let c = text_refused 0 d (e ∙ ap refused (sym q)) in
-      (sym c.says, (rw e, sym c.leaves))
-
-  pub whole_message : {t : Bool} → t ≡ ltb (length p) (256 ^ 3) → not t ≡ false
-      → Message (head_text msgType) 4 (accepted p) p (length p)
-  whole_message {t} m n = short_head msgType refl refl (ltb-true _ _ (sym m ∙ not-false t n))
-
--- the part behind its length, the same
+-- the part behind its length is a message
 module _ (msgType w : ℕ) (p : List ℕ) where
-  pub field_refused : (d : List ℕ) {t : Bool} {r : Refusal} → t ≡ allowed (sized w) (length p) → not t ≡ true
-      → r ≡ unplaced BadLength → Wrote (message_text (head_text msgType) (field_text (sized w) p)) d (refused r) 0 d
-  field_refused d {t} m n q =
-      not_wrote (head_text msgType) d (text_not (sized w) p (sym m ∙ not-true t n) ∙ ap refused (sym q))
-
-  pub field_is : {t : Bool} → t ≡ allowed (sized w) (length p) → not t ≡ false
-      → field_text (sized w) p ≡ accepted (field_bytes (sized w) p)
-  field_is {t} m n = text_may (sized w) p (sym m ∙ not-false t n)
-
   pub field_message : {t : Bool} → t ≡ allowed (sized w) (length p) → not t ≡ false → w ≤ 2 → (k : ℕ) → k ≡ w
       → Message (head_text msgType) 4 (field_text (sized w) p) (field_bytes (sized w) p) (k + length p)
   field_message {t} m n h k g =
@@ -156,9 +132,9 @@ module _ (s : List ℕ) (v : View) (k : List ℕ → Answer (List ℕ)) (msgType
   by_part p q n w = rw (view_in s v p q (sym l ∙ not-false t n)) (w.0, w.1.1)
 
 -- the text of a view is that of its part as it is, and behind its length
-pub raw_view : (s : List ℕ) (v : View) → then (view_text s v) (form_text 0) ≡ view_text s v
+pub raw_view : (s : List ℕ) (v : View) → then (view_text s v) (part_text Raw) ≡ view_text s v
 raw_view s v = go (view_text s v)
   where
-    go : (a : Answer (List ℕ)) → then a (form_text 0) ≡ a
+    go : (a : Answer (List ℕ)) → then a (part_text Raw) ≡ a
     go (accepted p) = refl
     go (refused r) = refl

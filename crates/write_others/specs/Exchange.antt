@@ -6,6 +6,9 @@ use Rattle.refusal.specs.{ℕ, List, [], Answer, accepted, refused, unplaced, Ba
 use Rattle.wire.specs.{if_some, lookup}
 use Rattle.field.specs.{sized, field_text}
 use Rattle.write_rules.specs.{view_text, sized_text}
+use Rattle.std.specs.Prelude.{Option, Some, None}
+use Rattle.write_others.specs.declared.Form.{Form}
+use Rattle.write_others.specs.declared.Form.TheVariants.{Raw, DiffieHellman, EllipticCurve}
 use Rattle.message.specs.{TlsClientKeyExchangeContents, Dh, Ecdh, Unknown, raw_exchange, dh_exchange, ecdh_exchange}
 
 abbrev pub exchange_text : List ℕ → TlsClientKeyExchangeContents → Answer (List ℕ)
@@ -17,3 +20,13 @@ exchange_text s (Ecdh v) = sized_text 1 s v
 -- any other number
 abbrev pub form_text : ℕ → List ℕ → Answer (List ℕ)
 form_text form p = if_some (lookup form ((raw_exchange, accepted p) ∷ (dh_exchange, field_text (sized 2) p) ∷ (ecdh_exchange, field_text (sized 1) p) ∷ [])) (λ t. t) (refused (unplaced BadLength))
+
+-- the same of a form, and of one that a number may name
+abbrev pub part_text : Form → List ℕ → Answer (List ℕ)
+part_text Raw p = accepted p
+part_text DiffieHellman p = field_text (sized 2) p
+part_text EllipticCurve p = field_text (sized 1) p
+
+abbrev pub told_text : Option Form → List ℕ → Answer (List ℕ)
+told_text (Some form) p = part_text form p
+told_text None p = refused (unplaced BadLength)

@@ -37,6 +37,25 @@ pub ensured : {t : Answer (List ℕ)} {at : ℕ} {d : List ℕ} {a : Answer ℕ}
     → (a ≡ room t at d) × (d' ≡ written t at d)
 ensured c = (sym c.says, sym c.leaves)
 
+-- a text that may not be written
+pub told_refused : {t : Answer (List ℕ)} (d : List ℕ) {r : Refusal} {a : Answer ℕ} {n : ℕ} → t ≡ refused r
+    → a ≡ refused r → n ≡ 0 → Wrote t d a n d
+told_refused d e p q =
+    let c = text_refused 0 d e in
+    (p ∙ sym c.says, (rw e q, sym c.leaves))
+
+-- a text of n bytes: there is no room for it, or it is put in
+module _ (bs d : List ℕ) {n : ℕ} (e : n ≡ length bs) where
+  pub text_short : {r : Refusal} → room_at d 0 n ≡ refused r
+      → (refused r ≡ room (accepted bs) 0 d) × (d ≡ written (accepted bs) 0 d)
+  text_short {r} q = ensured (text_out bs 0 d {r = r} refl (rw e at q))
+
+  pub text_put : {p : Part} {d' : List ℕ} → room_at d 0 n ≡ accepted p → d' ≡ put d 0 bs
+      → (accepted p.next ≡ room (accepted bs) 0 d) × (d' ≡ written (accepted bs) 0 d)
+  text_put {p} q y =
+      let c = text_in bs 0 d {p = p} refl (rw e at q) in
+      (sym c.says, y ∙ sym c.leaves)
+
 -- type and length
 abbrev pub head_bytes : ℕ → ℕ → List ℕ
 head_bytes msgType n = bytes_of 1 msgType ++ bytes_of 3 n
@@ -83,12 +102,16 @@ pub message_refused : (head : ℕ → Answer (List ℕ)) {body : Answer (List �
 unfolding message_text
 message_refused head d e = text_refused 0 d (rw e)
 
-pub not_wrote : (head : ℕ → Answer (List ℕ)) {body : Answer (List ℕ)} (d : List ℕ) {r : Refusal} → body ≡ refused r
-    → Wrote (message_text head body) d (refused r) 0 d
+pub message_not : (head : ℕ → Answer (List ℕ)) {body : Answer (List ℕ)} {r : Refusal} → body ≡ refused r
+    → message_text head body ≡ refused r
 unfolding message_text
-not_wrote head d e =
-    let c = message_refused head d e in
-    (sym c.says, (rw e, sym c.leaves))
+message_not head e = rw e
+
+-- a body whose length is too large for type and length
+pub message_over : (msgType n : ℕ) (p : List ℕ) → n ≡ length p → ltb n (256 ^ 3) ≡ false
+    → message_text (head_text msgType) (accepted p) ≡ refused (unplaced BadLength)
+unfolding message_text head_text number_text
+message_over msgType n p e h = rw (rw e at h)
 
 -- with type and length before it, it is the type and the body behind a length of three bytes
 pub same_text : (msgType : ℕ) (body : Answer (List ℕ))
@@ -144,13 +167,18 @@ pub short_head : (msgType : ℕ) {body : Answer (List ℕ)} {bs : List ℕ} {n :
 short_head msgType {n = n} e l h =
     record { front = head_bytes msgType n; before = head_is msgType n h; wide = length_head msgType n; is = e; long = l }
 
+-- the same, its body being bytes of which three can hold the length
+pub body_message : (msgType n : ℕ) (p : List ℕ) → n ≡ length p → ltb n (256 ^ 3) ≡ true
+    → Message (head_text msgType) 4 (accepted p) p n
+body_message msgType n p e h = short_head msgType refl e (ltb-true _ _ h)
+
 -- there is no room for it, or its body is put in behind the head's place, and then the head
 module _ {head : ℕ → Answer (List ℕ)} {m : ℕ} {body : Answer (List ℕ)} {bs : List ℕ} {n : ℕ} (d : List ℕ)
     (b : Message head m body bs n) where
-  whole_is : message_text head body ≡ accepted (b.front ++ bs)
+  pub whole_is : message_text head body ≡ accepted (b.front ++ bs)
   whole_is = message_is head b.front bs (rw (← b.long) b.before) b.is
 
-  length_whole : length (b.front ++ bs) ≡ m + n
+  pub length_whole : length (b.front ++ bs) ≡ m + n
   length_whole = rw (length-append, b.wide, ← b.long)
 
   -- the body fits into what is lent from byte m on
@@ -186,7 +214,7 @@ module _ {head : ℕ → Answer (List ℕ)} {m : ℕ} {body : Answer (List ℕ)}
       message_in {p = p} ys out q (y ∙ written_in bs 0 (mid_of m (length d - m) d) e (omega (arith, body_fits q))) o
 
   -- the same with the text's length
-  long_whole : text_length (message_text head body) ≡ m + n
+  pub long_whole : text_length (message_text head body) ≡ m + n
   long_whole = rw whole_is length_whole
 
   pub no_room : {r : Refusal} {k : ℕ} → k ≡ m + n → room_at d 0 (m + n) ≡ refused r
@@ -195,6 +223,17 @@ module _ {head : ℕ → Answer (List ℕ)} {m : ℕ} {body : Answer (List ℕ)}
       let c = message_out {r = r} q in
       (sym c.says, (e ∙ sym long_whole, sym c.leaves))
 
-  pub wrote : {a k : ℕ} {out : List ℕ} → k ≡ m + n → Came (message_text head body) 0 d (accepted a) out
-      → Wrote (message_text head body) d (accepted a) k out
-  wrote e c = (sym c.says, (e ∙ sym long_whole, sym c.leaves))
+-- what a writer ensures that hands its text of k bytes over to `gen_text`, or its body to
+-- `gen_message`, to be put in as P says
+module _ (d : List ℕ) {t : Answer (List ℕ)} {bs d' : List ℕ} {k n : ℕ} {a : Answer ℕ} {P : List ℕ → Type 0}
+    (e : t ≡ accepted bs) (l : k ≡ length bs) where
+  pub by_text : ((x : List ℕ) → k ≡ length x → P x → a ≡ room (accepted x) 0 d) → n ≡ k
+      → ((x : List ℕ) → k ≡ length x → P x → d' ≡ written (accepted x) 0 d) → P bs → Wrote t d a n d'
+  by_text f g h p = rw e (f bs l p, (g ∙ l, h bs l p))
+
+  pub by_message : (msgType : ℕ)
+      → ((x : List ℕ) → k ≡ length x → P x → a ≡ room (message_text (head_text msgType) (accepted x)) 0 d)
+      → ((x : List ℕ) → k ≡ length x → n ≡ text_length (message_text (head_text msgType) (accepted x)))
+      → ((x : List ℕ) → k ≡ length x → P x → d' ≡ written (message_text (head_text msgType) (accepted x)) 0 d)
+      → P bs → Wrote (message_text (head_text msgType) t) d a n d'
+  by_message msgType f g h p = rw e (f bs l p, (g bs l, h bs l p))

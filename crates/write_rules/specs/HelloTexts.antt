@@ -4,7 +4,7 @@
 -- are the rules of the fields, `grammar/specs/Hellos.antt`.
 use Rattle.std.specs.Prelude.{◌++◌, ◌&&◌}
 use Rattle.refusal.specs.{ℕ, List, Bool, true, false, length, unplaced, Answer, accepted, refused, BadLength}
-use Rattle.wire.specs.{pick, opt_part_of, Absent, Present, lies_in}
+use Rattle.wire.specs.{pick, opt_part_of, None, Some, lies_in}
 use Rattle.field.specs.{Field, field_bytes, allowed}
 use Rattle.grammar.specs.{How, as_view, as_opt, as_number, gather, extensions, Form, Out, named}
 
@@ -12,8 +12,8 @@ use Rattle.grammar.specs.{How, as_view, as_opt, as_number, gather, extensions, F
 -- one what `as_opt` makes of an empty part
 abbrev pub lies : (m : How) → List ℕ → Out m → Bool
 lies as_view s v = lies_in s v
-lies (as_opt empty) s Absent = true
-lies (as_opt empty) s (Present v) = lies_in s v
+lies (as_opt empty) s None = true
+lies (as_opt empty) s (Some v) = lies_in s v
 lies (as_number w) s n = true
 
 -- and may be written: the part that it names may stand in the field

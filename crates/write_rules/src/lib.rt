@@ -1,67 +1,128 @@
-// What every writer shares: what came of a text, whether a part lies in the bytes lent, and a
-// message's head.
+// What every writer shares: what came of a text, whether a part lies in the bytes lent, a message's
+// head, and the frame that looks for room before a text or a message is put in.
 #![tactic(auto)]
 
-ghost use Rattle.std.specs.Prelude.{false, ◌≡◌};
+ghost use Rattle.std.specs.Prelude.{ℕ, List, false, ◌≡◌, length};
 ghost use Rattle.grammar.specs.Grammars.{How};
 ghost use Rattle.wire.specs.Parts.{lies_in};
-ghost use Rattle.wire.specs.Puts.{room, written, write_says};
+ghost use Rattle.wire.specs.Puts.{room, written};
+ghost use Rattle.write_rules.specs.Calls.{Puts, Takes};
 ghost use Rattle.write_rules.specs.HelloTexts.{lies};
-ghost use Rattle.write_rules.specs.MessageTexts.{head_text};
+ghost use Rattle.write_rules.specs.JoinTexts.{text_length};
+ghost use Rattle.write_rules.specs.MessageTexts.{head_text, message_text};
+ghost use Rattle.refusal.specs.Answers.{Answer, as_answer};
+ghost use Rattle.refusal.specs.Refusals.{unplaced};
 
-use refusal::Reason;
+use refusal::{Reason, Refusal};
 use wire::number::Width;
-use wire::output::WriteAnswer;
-use wire::view::{OptView, PartAnswer, View};
+use wire::view::View;
 
 // What writing a text came to, and how many bytes the text has: 0 where none may be written.
+// stays: with NoRoom the length is told too, so it stands beside the answer and not in it.
 #[derive(Clone, Copy)]
 pub struct TextAnswer {
-    pub answer: WriteAnswer,
+    pub answer: Result<usize, Refusal>,
     pub len: usize,
+}
+
+impl TextAnswer {
+    // The answer of a text that may not be written.
+    pub fn refused(reason: Reason) -> TextAnswer
+        ensures answer_value { as_answer result.answer ≡ Answer.refused (unplaced reason) }
+        ensures len_value { result.len ≡ 0 }
+    {
+        TextAnswer {
+            answer: Err(refusal::unplaced(reason)),
+            len: 0,
+        }
+    }
 }
 
 // Whether a view lies within the bytes lent with it.
 pub fn lies_in(i: &[u8], v: View) -> bool
     ensures { result ≡ lies_in i.now v }
 {
-    let start = v.start;
-    let len = v.len;
-    if i.len() < len {
-        return false;
-    }
-    if i.len() - len < start {
-        return false;
-    }
-    true
+    v.len <= i.len() && v.start <= i.len() - v.len
 }
 
 // The same of a view that may be missing, which lies in any bytes.
-pub fn opt_lies_in(i: &[u8], v: OptView) -> bool
+pub fn opt_lies_in(i: &[u8], v: Option<View>) -> bool
     ensures { result ≡ lies (How.as_opt false) i.now v }
 {
-    match v {
-        OptView::Absent => true,
-        OptView::Present(p) => lies_in(i, p),
-    }
+    v.map_or(true, |p| lies_in(i, p))
 }
 
 // Writes type and length of a message, to stand before a body of `n` bytes: BadLength, then NoRoom.
 // A refusal changes no byte.
-pub fn gen_head(out: &mut [u8], msg_type: u8, n: usize) -> WriteAnswer
-    ensures result_value { write_says result ≡ room (head_text msg_type n) 0 out.old }
+// stays: `let _` drops answers that are known, since there is room; `?` would hand them on.
+pub fn gen_head(out: &mut [u8], msg_type: u8, n: usize) -> Result<usize, Refusal>
+    ensures result_value { as_answer result ≡ room (head_text msg_type n) 0 out.old }
     ensures out_after { out.new ≡ written (head_text msg_type n) 0 out.old }
 {
     if wire::number::width_holds(Width::Three, n) {
-        match wire::output::room_for(out, 0, 4) {
-            PartAnswer::Refused(r) => WriteAnswer::Refused(r),
-            PartAnswer::Got(p) => {
-                wire::number::gen_be(out, 0, Width::One, msg_type as usize);
-                wire::number::gen_be(out, 1, Width::Three, n);
-                WriteAnswer::Wrote(p.next)
+        let p = wire::output::room_for(out, 0, 4)?;
+        let _ = wire::number::gen_be(out, 0, Width::One, msg_type as usize);
+        let _ = wire::number::gen_be(out, 1, Width::Three, n);
+        Ok(p.next)
+    } else {
+        Err(refusal::unplaced(Reason::BadLength))
+    }
+}
+
+// Writes a text of `n` bytes, which `put` puts in from the front of the output, or answers NoRoom;
+// either way the length is told. A refusal changes no byte.
+pub fn gen_text<F: FnOnce(&mut [u8])>(out: &mut [u8], n: usize, put: F) -> TextAnswer
+    requires { Takes F.FnOnce put n }
+    ensures answer_value { (bs : List ℕ) → n ≡ length bs → Puts F.FnOnce put bs → as_answer result.answer ≡ room (Answer.accepted bs) 0 out.old }
+    ensures len_value { result.len ≡ n }
+    ensures out_after { (bs : List ℕ) → n ≡ length bs → Puts F.FnOnce put bs → out.new ≡ written (Answer.accepted bs) 0 out.old }
+{
+    match wire::output::room_for(out, 0, n) {
+        Err(r) => TextAnswer {
+            answer: Err(r),
+            len: n,
+        },
+        Ok(p) => {
+            put(out);
+            TextAnswer {
+                answer: Ok(p.next),
+                len: n,
             }
         }
-    } else {
-        WriteAnswer::Refused(refusal::unplaced(Reason::BadLength))
+    }
+}
+
+// Writes a message round a body of `n` bytes, which `put` puts in from the front of the part behind
+// the head: BadLength, then NoRoom, with which the message's length is told. A refusal changes no
+// byte.
+// stays: not by `gen_text`, since a closure round `put` would have to state what `put` may do.
+pub fn gen_message<F: FnOnce(&mut [u8])>(
+    out: &mut [u8],
+    msg_type: u8,
+    n: usize,
+    put: F,
+) -> TextAnswer
+    requires { Takes F.FnOnce put n }
+    ensures answer_value { (bs : List ℕ) → n ≡ length bs → Puts F.FnOnce put bs → as_answer result.answer ≡ room (message_text (head_text msg_type) (Answer.accepted bs)) 0 out.old }
+    ensures len_value { (bs : List ℕ) → n ≡ length bs → result.len ≡ text_length (message_text (head_text msg_type) (Answer.accepted bs)) }
+    ensures out_after { (bs : List ℕ) → n ≡ length bs → Puts F.FnOnce put bs → out.new ≡ written (message_text (head_text msg_type) (Answer.accepted bs)) 0 out.old }
+{
+    if !wire::number::width_holds(Width::Three, n) {
+        return TextAnswer::refused(Reason::BadLength);
+    }
+    let len = 4 + n;
+    match wire::output::room_for(out, 0, len) {
+        Err(r) => TextAnswer {
+            answer: Err(r),
+            len,
+        },
+        Ok(p) => {
+            put(&mut out[4..]);
+            let _ = gen_head(out, msg_type, n);
+            TextAnswer {
+                answer: Ok(p.next),
+                len,
+            }
+        }
     }
 }

@@ -1,2 +1,3 @@
 pub mod Lengths
 pub mod Fields
+pub mod Asked

@@ -1,31 +1,22 @@
 -- `claims::all_claims` meets its contract: every claim, each by the theorem that shows it. Assumes
 -- nothing.
 use native.Mathlib.Omega.{arith}
-use Rattle.refusal.proofs.Told.{numbers_apart}
-use Rattle.wire.proofs.Parts.{one_part_lem}
-use Rattle.wire.proofs.Numbers.{one_number, every_width}
-use Rattle.wire.proofs.Puts.{one_write_lem}
+use Rattle.refusal.proofs.Told.{numbers_apart, one_result}
+use Rattle.wire.proofs.Numbers.{every_width}
 use Rattle.field.specs.Fields.{fixed, sized}
 use Rattle.field.proofs.Closing.{every_closing, every_length}
 use Rattle.list.proofs.Fields.{none_more}
 use Rattle.list.proofs.Listed.{by_items}
-use Rattle.read_start.proofs.Begun.{one_start_lem}
 use Rattle.read_client.proofs.Whole as client
 use Rattle.read_client.proofs.Strict as strict
 use Rattle.read_server.proofs.Whole as server
 use Rattle.read_certs.proofs.Whole as certs
 use Rattle.cert_reader.proofs.Same.{every_reader}
 use Rattle.read_others.proofs.Whole as body
-use Rattle.message.proofs.Answers.{one_message_lem}
 use Rattle.open_hellos.proofs.Opened as hellos
-use Rattle.envelope.proofs.Answers.{one_head_lem}
 use Rattle.record_walk.proofs.Walking.{every_walk}
-use Rattle.content.proofs.Answers.{one_content_lem, one_alert_lem, one_heartbeat_lem}
-use Rattle.content_walk.proofs.Answers.{one_found, one_past_lem}
 use Rattle.content_walk.proofs.Walking.{every_content}
 use Rattle.record.proofs.Whole as records
-use Rattle.record_open.proofs.Answers.{one_plaintext_lem, one_opened_lem}
-use Rattle.record_many.proofs.Answers.{one_many_lem}
 use Rattle.record_many.proofs.Records.{every_many}
 use Rattle.record_joined.proofs.Joined.{no_record_more_lem, same_bytes}
 use Rattle.norrabist_c.proofs.HellosBack.{hellos_back}
@@ -45,32 +36,32 @@ use Rattle.claims.proofs.all_claims.Goals as goal
 pub returns : goal.returns
 returns c = record {
   table = numbers_apart;
-  one_part = one_part_lem;
-  one_number_of = one_number;
-  one_write = one_write_lem;
-  one_start = one_start_lem;
-  one_client = client.one_client_lem;
-  one_server = server.one_server_lem;
-  one_draft18 = server.one_draft18_lem;
-  one_certificate = certs.one_certificate_lem;
-  one_request = certs.one_request_lem;
-  one_status = certs.one_status_lem;
-  one_retry = body.one_retry_lem;
-  one_ticket = body.one_ticket_lem;
-  one_next_protocol = body.one_next_protocol_lem;
-  one_message = one_message_lem;
-  one_head = one_head_lem;
-  one_header = records.one_header_lem;
-  one_raw = records.one_raw_lem;
-  one_encrypted = records.one_encrypted_lem;
-  one_plaintext = one_plaintext_lem;
-  one_opened = one_opened_lem;
-  one_content = one_content_lem;
-  one_alert = one_alert_lem;
-  one_heartbeat = one_heartbeat_lem;
-  one_found_of = one_found;
-  one_past = one_past_lem;
-  one_many = one_many_lem;
+  one_part = one_result;
+  one_number_of = one_result;
+  one_write = one_result;
+  one_start = one_result;
+  one_client = one_result;
+  one_server = one_result;
+  one_draft18 = one_result;
+  one_certificate = one_result;
+  one_request = one_result;
+  one_status = one_result;
+  one_retry = one_result;
+  one_ticket = one_result;
+  one_next_protocol = one_result;
+  one_message = one_result;
+  one_head = one_result;
+  one_header = one_result;
+  one_raw = one_result;
+  one_encrypted = one_result;
+  one_plaintext = one_result;
+  one_opened = one_result;
+  one_content = one_result;
+  one_alert = one_result;
+  one_heartbeat = one_result;
+  one_found_of = one_result;
+  one_past = one_result;
+  one_many = one_result;
   numbers = every_width;
   reads_client = client.demand3;
   reads_server = server.demand3;

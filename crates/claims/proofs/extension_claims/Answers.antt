@@ -1,10 +1,10 @@
 -- `claims::extension_claims` meets its contract: each claim is shown in the crate that it speaks
 -- of. Assumes nothing.
-use Rattle.list.proofs.Tags.{one_tagged_lem, every_tagged}
+use Rattle.refusal.proofs.Told.{one_result}
+use Rattle.list.proofs.Tags.{every_tagged}
 use Rattle.read_ext.proofs.Answers.{one_block_lem}
 use Rattle.read_ext.proofs.Blocks.{every_block}
 use Rattle.read_ext.proofs.OfKind.{every_kind}
-use Rattle.write_ext.proofs.Answers.{one_length_lem, one_row_lem}
 use Rattle.write_ext.proofs.RowLists.{every_rows, every_read}
 use Rattle.write_ext.proofs.WholeLists.{every_list, every_value, at_edge}
 use Rattle.norrabist_c.proofs.ExtensionParts.{every_extension_back}
@@ -14,9 +14,9 @@ use Rattle.claims.proofs.extension_claims.Goals as goal
 
 pub returns : goal.returns
 returns c = record {
-  one_tagged = one_tagged_lem;
-  one_length = one_length_lem;
-  one_row = one_row_lem;
+  one_tagged = one_result;
+  one_length = one_result;
+  one_row = one_result;
   one_block = one_block_lem;
   tagged = every_tagged;
   ext_kinds = every_kind;

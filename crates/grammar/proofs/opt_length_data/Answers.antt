@@ -1,13 +1,11 @@
 -- `grammar::opt_length_data` meets its contract, by that of `length_data`. Assumes nothing.
-use Rattle.refusal.proofs.Told.{case}
-use Rattle.wire.specs.Parts.{part_says}
 use Rattle.grammar.specs.Reading.{block_at}
 use Rattle.grammar.proofs.opt_length_data.Goals as goal
 
-pub returns-in-Refused : goal.returns-in-Refused
+pub returns-in-Err : goal.returns-in-Err
 unfolding block_at
-returns-in-Refused c = rw (case part_says c.length_data.ensures c.in-Refused.is)
+returns-in-Err c = rw (← c.in-Err.ensures)
 
-pub returns-in-Got : goal.returns-in-Got
+pub returns-in-Ok : goal.returns-in-Ok
 unfolding block_at
-returns-in-Got c = rw (case part_says c.length_data.ensures c.in-Got.is)
+returns-in-Ok c = rw (← c.in-Ok.ensures)

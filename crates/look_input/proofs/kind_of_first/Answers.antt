@@ -58,9 +58,9 @@ returns-then-is_hex c =
       sym c.is_hex.ensures ∙ c.if-is_hex.true,
     )
 
-pub returns : goal.returns
+pub returns-else-is_hex : goal.returns-else-is_hex
 unfolding first_kind
-returns c =
+returns-else-is_hex c =
     rw (
       sym c.is_pcap.ensures ∙ c.if-is_pcap.false,
       ne_eqb _ _ c.if-n-eq-PCAPNG.false,

@@ -1,76 +1,62 @@
 -- `read_client::parse_tls_handshake_client_hello_strict` meets its contract: what the plain reader
 -- found, held to the three conditions. Assumes nothing.
-use mathlib.Core.Path.{◌≡◌, sym, ◌∙◌}
-use Rattle.refusal.specs.Answers.{accepted}
-use Rattle.refusal.proofs.Told.{case}
-use Rattle.wire.specs.Numbers.{Bytes}
-use Rattle.grammar.specs.Forms.{reading}
-use Rattle.grammar.specs.Hellos.{client_to_fill}
-use Rattle.grammar.specs.Strict.{ByExactSplit}
-use Rattle.read_client.specs.Client.{client, client_says}
+use mathlib.Core.Path.{sym, ap, ◌∙◌}
+use Rattle.std.specs.Prelude.{Err}
+use Rattle.refusal.specs.Answers.{refused, as_answer}
+use Rattle.refusal.proofs.Told.{case, hands_on}
 use Rattle.read_client.proofs.Strict.{strict_demand3, begins, by_case}
 use Rattle.read_client.proofs.parse_tls_handshake_client_hello_strict.Goals as goal
 
-pub returns-in-Refused : goal.returns-in-Refused
-returns-in-Refused c =
-    let e = case client_says c.parse_tls_handshake_client_hello.ensures.result_value c.in-Refused.is in
+pub returns-in_err-c : goal.returns-in_err-c
+returns-in_err-c c =
     let d = strict_demand3 _ (λ n. (c.type_inv.i n).fits) in
     record {
-      result_value = sym (d.plain_first _ e);
+      result_value = hands_on _ c.from_residual.ensures (sym (d.plain_first _
+          (case as_answer c.parse_tls_handshake_client_hello.ensures.result_value c.in_err-c.was)));
       by_exact_split = d;
     }
 
 pub overflow_sub-c : goal.overflow_sub-c
 overflow_sub-c c =
-    let bytes : Bytes (c.args.i.now) = λ n. (c.type_inv.i n).fits in
-    let got : reading client (c.args.i.now) ≡ accepted c.in-Got.c = case client_says c.parse_tls_handshake_client_hello.ensures.result_value c.in-Got.is in
-    (begins _ (bytes) _ (got)).0
+    (begins _ (λ n. (c.type_inv.i n).fits) _
+    (case as_answer c.parse_tls_handshake_client_hello.ensures.result_value c.in_ok-c.was)).0
 
-pub overflow_sub-c-in-NoMethods : goal.overflow_sub-c-in-NoMethods
-overflow_sub-c-in-NoMethods c =
-    let bytes : Bytes (c.args.i.now) = λ n. (c.type_inv.i n).fits in
-    let got : reading client (c.args.i.now) ≡ accepted c.in-Got.c = case client_says c.parse_tls_handshake_client_hello.ensures.result_value c.in-Got.is in
-    (begins _ (bytes) _ (got)).1
+pub overflow_sub-c-in-Err-NoMethods : goal.overflow_sub-c-in-Err-NoMethods
+overflow_sub-c-in-Err-NoMethods c =
+    (begins _ (λ n. (c.type_inv.i n).fits) _
+    (case as_answer c.parse_tls_handshake_client_hello.ensures.result_value c.in_ok-c.was)).1
 
-pub returns-in-Exact : goal.returns-in-Exact
-returns-in-Exact c =
-    let bytes : Bytes (c.args.i.now) = λ n. (c.type_inv.i n).fits in
-    let got : reading client (c.args.i.now) ≡ accepted c.in-Got.c = case client_says c.parse_tls_handshake_client_hello.ensures.result_value c.in-Got.is in
-    let split : ByExactSplit client client_to_fill (c.args.i.now) = strict_demand3 _ (bytes) in
+pub returns-in-Ok : goal.returns-in-Ok
+returns-in-Ok c =
     record {
-      result_value = sym (by_case _ (bytes) _ (got) (sym c.exactness.ensures ∙ c.in-Exact.is));
-      by_exact_split = split;
+      result_value = by_case _ (λ n. (c.type_inv.i n).fits) c.parse_tls_handshake_client_hello.ensures.result_value
+          c.in_ok-c.was c.exactness.ensures c.in-Ok.is;
+      by_exact_split = strict_demand3 _ (λ n. (c.type_inv.i n).fits);
     }
 
-pub returns-in-NoCiphers : goal.returns-in-NoCiphers
-returns-in-NoCiphers c =
-    let bytes : Bytes (c.args.i.now) = λ n. (c.type_inv.i n).fits in
-    let got : reading client (c.args.i.now) ≡ accepted c.in-Got.c = case client_says c.parse_tls_handshake_client_hello.ensures.result_value c.in-Got.is in
-    let split : ByExactSplit client client_to_fill (c.args.i.now) = strict_demand3 _ (bytes) in
+pub returns-in-Err-NoCiphers : goal.returns-in-Err-NoCiphers
+returns-in-Err-NoCiphers c =
     record {
-      result_value = c.inexact.ensures
-          ∙ sym (by_case _ (bytes) _ (got) (sym c.exactness.ensures ∙ c.in-NoCiphers.is));
-      by_exact_split = split;
+      result_value = ap refused c.not_exact.ensures
+          ∙ by_case _ (λ n. (c.type_inv.i n).fits) c.parse_tls_handshake_client_hello.ensures.result_value
+          c.in_ok-c.was c.exactness.ensures (c.in-Err-NoCiphers.is ∙ ap Err c.in-Err-NoCiphers.field-0-is);
+      by_exact_split = strict_demand3 _ (λ n. (c.type_inv.i n).fits);
     }
 
-pub returns-in-NoMethods : goal.returns-in-NoMethods
-returns-in-NoMethods c =
-    let bytes : Bytes (c.args.i.now) = λ n. (c.type_inv.i n).fits in
-    let got : reading client (c.args.i.now) ≡ accepted c.in-Got.c = case client_says c.parse_tls_handshake_client_hello.ensures.result_value c.in-Got.is in
-    let split : ByExactSplit client client_to_fill (c.args.i.now) = strict_demand3 _ (bytes) in
+pub returns-in-Err-NoMethods : goal.returns-in-Err-NoMethods
+returns-in-Err-NoMethods c =
     record {
-      result_value = c.inexact-in-NoMethods.ensures
-          ∙ sym (by_case _ (bytes) _ (got) (sym c.exactness.ensures ∙ c.in-NoMethods.is));
-      by_exact_split = split;
+      result_value = ap refused c.not_exact-in-Err-NoMethods.ensures
+          ∙ by_case _ (λ n. (c.type_inv.i n).fits) c.parse_tls_handshake_client_hello.ensures.result_value
+          c.in_ok-c.was c.exactness.ensures (c.in-Err-NoMethods.is ∙ ap Err c.in-Err-NoMethods.field-0-is);
+      by_exact_split = strict_demand3 _ (λ n. (c.type_inv.i n).fits);
     }
 
-pub returns-in-HasTail : goal.returns-in-HasTail
-returns-in-HasTail c =
-    let bytes : Bytes (c.args.i.now) = λ n. (c.type_inv.i n).fits in
-    let got : reading client (c.args.i.now) ≡ accepted c.in-Got.c = case client_says c.parse_tls_handshake_client_hello.ensures.result_value c.in-Got.is in
-    let split : ByExactSplit client client_to_fill (c.args.i.now) = strict_demand3 _ (bytes) in
+pub returns-in-Err-HasTail : goal.returns-in-Err-HasTail
+returns-in-Err-HasTail c =
     record {
-      result_value = c.inexact-in-HasTail.ensures
-          ∙ sym (by_case _ (bytes) _ (got) (sym c.exactness.ensures ∙ c.in-HasTail.is));
-      by_exact_split = split;
+      result_value = ap refused c.not_exact-in-Err-HasTail.ensures
+          ∙ by_case _ (λ n. (c.type_inv.i n).fits) c.parse_tls_handshake_client_hello.ensures.result_value
+          c.in_ok-c.was c.exactness.ensures (c.in-Err-HasTail.is ∙ ap Err c.in-Err-HasTail.field-0-is);
+      by_exact_split = strict_demand3 _ (λ n. (c.type_inv.i n).fits);
     }

@@ -1,27 +1,23 @@
 -- `read_ext::extension_from` meets its contract: at the front the block is sound or damaged, behind
 -- it the item is looked at. Assumes nothing.
-use borrow.Author.Tests.{ne_eqb}
-use Rattle.read_ext.specs.Extensions.{extension_from}
-use Rattle.read_ext.proofs.Turns.{is_sound, is_damaged}
+use Rattle.std.proofs.Common.{rules}
+use mathlib.Core.Path.{◌≡◌, sym, ap, ◌∙◌}
+use Rattle.refusal.specs.Answers.{as_answer}
+use Rattle.read_ext.specs.Extensions.{sound, extension_says, extensions_says, extensions, extension_from}
+use Rattle.read_ext.proofs.Turns.{from_front, from_behind, still_damaged, damage_on}
 use Rattle.read_ext.proofs.extension_from.Goals as goal
+use Rattle.read_ext.proofs.extension_from.Goals.{then-at-eq0+in_ok-parse_tls_extensions, else-at-eq0}
 
-pub returns-then-at-ne0 : goal.returns-then-at-ne0
-unfolding extension_from
-returns-then-at-ne0 c = rw (ne_eqb _ 0 c.if-at-ne0.true) c.open_from.ensures
+pub returns-in_err-parse_tls_extensions : goal.returns-in_err-parse_tls_extensions
+unfolding extensions extension_from
+returns-in_err-parse_tls_extensions c =
+    let e = sym c.parse_tls_extensions.ensures ∙ ap extensions_says c.in_err-parse_tls_extensions.was in
+    rw c.if-at-eq0.true (damage_on _ c.from_residual.ensures ∙ sym (still_damaged _ _ _ e))
 
-pub returns-then-items-block : goal.returns-then-items-block
-unfolding extension_from
-returns-then-items-block c =
-    let i = c.if-at-ne0.false in
-    rw (i, is_sound _ _ c.count_items-items.ensures c.if-items-block.true, ← i)
-    c.open_from-then-items-block.ensures
-
-pub returns-else-items-block : goal.returns-else-items-block
-unfolding extension_from
-returns-else-items-block c =
-    let i = c.if-at-ne0.false in
-    rw (
-      i,
-      is_damaged _ _ c.count_items-items.ensures c.if-items-block.false,
-      c.damage_of.ensures,
-    )
+pub returns : goal.returns
+returns c =
+    let t : extension_says c.map_err.result ≡ sound (as_answer c.open_from.result) = search rules in
+    t ∙ ap sound c.open_from.ensures ∙ sym (elim c.if-at-eq0.branch [
+      | then-at-eq0+in_ok-parse_tls_extensions w ↦ from_front _ _ w.if-at-eq0.true (sym w.parse_tls_extensions.ensures ∙ ap extensions_says w.in_ok-parse_tls_extensions.was)
+      | else-at-eq0 w ↦ from_behind _ _ w.if-at-eq0.false
+    ])

@@ -1,5 +1,5 @@
 -- `read_ext::extension_of` meets its contract: the type decides. Assumes nothing.
-use borrow.Author.Tests.{ne_eqb}
+use Rattle.std.proofs.Common.{rules}
 use Rattle.read_ext.specs.Extensions.{extension_of}
 use Rattle.read_ext.proofs.extension_of.Goals as goal
 
@@ -17,5 +17,4 @@ returns-in-10 c = rw c.in-10.is
 
 pub returns-in_default : goal.returns-in_default
 unfolding extension_of
-returns-in_default c =
-    rw (ne_eqb _ 0 c.in_default.in_default-own.rest.0.0.1, ne_eqb _ 1 c.in_default.in_default-own.rest.0.1, ne_eqb _ 10 c.in_default.in_default-own.rest.1)
+returns-in_default c = search rules

@@ -1,26 +1,22 @@
--- `read_ext::item_at` meets its contract: after k turns the place asked for is k places nearer in
--- what is left. Assumes nothing.
-use mathlib.Core.Path.{◌∙◌}
-use Rattle.refusal.proofs.Told.{case}
-use Rattle.list.specs.Tagged.{tagged_says}
+-- `read_ext::item_at` meets its contract: the steps lead to the item, or one of them is refused.
+-- Assumes nothing.
+use Rattle.std.proofs.Common.{rules}
+use mathlib.Core.Path.{sym, ap, ◌∙◌}
+use Rattle.refusal.specs.Answers.{giving}
+use Rattle.refusal.proofs.Told.{hands_on}
+use Rattle.list.proofs.Stepping.{or_tells, skipped, or_missed}
 use Rattle.read_ext.specs.Kinds.{fits}
-use Rattle.read_ext.proofs.Turns.{far, nearer, nowhere, there, opened_there}
+use Rattle.read_ext.specs.Extensions.{opened, opened_from}
+use Rattle.read_ext.proofs.Turns.{turn, opened_or}
 use Rattle.read_ext.proofs.item_at.Goals as goal
 
-pub loop-k-init : goal.loop-k-init
-loop-k-init c = far 2 fits c.args.block.now _
-
-pub returns-in-Refused : goal.returns-in-Refused
-returns-in-Refused c =
-    let e = case tagged_says c.item_from.ensures.result_value c.in-Refused.is in
-    rw (nowhere 2 fits _ _ _ _ c.loop-k.invariant e, c.refuse.ensures)
-
-pub loop-k-preserved : goal.loop-k-preserved
-loop-k-preserved c =
-    let e = case tagged_says c.item_from.ensures.result_value c.in-Got.is in
-    nearer 2 fits _ _ _ _ c.loop-k.invariant c.loop-k-test.true e
+pub returns-in_err-from : goal.returns-in_err-from
+returns-in_err-from c =
+    let e = or_missed (turn 2 fits c.args.block.now) c.args.n (rw c.in_err-from.was at c.skip.ensures) (λ at r b s. search rules) in
+    hands_on _ c.from_residual.ensures (rw (← e))
 
 pub returns : goal.returns
+unfolding opened_from
 returns c =
-    rw (there 2 fits _ _ _ _ c.loop-k.invariant c.loop-k-test.false)
-    (c.open_from.ensures ∙ opened_there _ c.loop-k.from)
+    let e = skipped (turn 2 fits c.args.block.now) c.args.n (rw c.in_ok-from.was at c.skip.ensures) (or_tells (λ at r b s. search rules)) in
+    c.open_from.ensures ∙ opened_or _ _ ∙ ap (giving (opened c.args.block.now)) (sym e)

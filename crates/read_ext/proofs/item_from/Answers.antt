@@ -1,36 +1,27 @@
--- `read_ext::item_from` meets its contract: an item is found, and its data is of its kind. Assumes
--- nothing.
-use mathlib.Core.Path.{ap}
-use Rattle.refusal.specs.Answers.{refused}
+-- `read_ext::item_from` meets its contract: an item is found, and its data is of its kind, or there
+-- is none. Assumes nothing.
+use mathlib.Core.Path.{ap, ◌∙◌}
+use Rattle.refusal.specs.Answers.{refused, as_answer}
 use Rattle.refusal.proofs.Told.{case}
-use Rattle.list.specs.Tagged.{tagged_says, fit_at}
+use Rattle.list.specs.Tagged.{fit_at}
 use Rattle.read_ext.proofs.item_from.Goals as goal
+use Rattle.read_ext.proofs.item_from.Goals.{in_default-via-in-Ok+else-is_of, in_default-via-in_default}
 
-pub returns-in-Refused : goal.returns-in-Refused
+pub returns-in-Ok : goal.returns-in-Ok
 unfolding fit_at
-returns-in-Refused c =
-    let e = case tagged_says c.tagged_from.ensures.result_value c.in-Refused.is in
-    record {
-      result_value = rw e;
-      tagged_below = tt;
-    }
-
-pub returns-then-is_of : goal.returns-then-is_of
-unfolding fit_at
-returns-then-is_of c =
-    let e = case tagged_says c.tagged_from.ensures.result_value c.in-Got.is in
+returns-in-Ok c =
+    let e = case as_answer c.tagged_from.ensures.result_value c.in-Ok.is in
     let t = rw c.part_of.ensures at c.is_of.ensures in
-    record {
-      result_value = rw (e, ← t, c.if-is_of.true);
-      tagged_below = rw c.in-Got.is at c.tagged_from.ensures.tagged_below;
-    }
+    rw (e, ← t, c.if-is_of.true)
 
-pub returns-else-is_of : goal.returns-else-is_of
+pub returns-in_default : goal.returns-in_default
 unfolding fit_at
-returns-else-is_of c =
-    let e = case tagged_says c.tagged_from.ensures.result_value c.in-Got.is in
-    let t = rw c.part_of.ensures at c.is_of.ensures in
-    record {
-      result_value = rw (e, ← t, c.if-is_of.false) (ap refused c.refuse.ensures);
-      tagged_below = tt;
-    }
+returns-in_default c = ap refused c.refuse.ensures ∙ elim c.in_default.branch [
+  | in_default-via-in-Ok+else-is_of w ↦
+      let e = case as_answer c.tagged_from.ensures.result_value w.in-Ok.is in
+      let t = rw w.part_of.ensures at w.is_of.ensures in
+      rw (e, ← t, w.if-is_of.false)
+  | in_default-via-in_default w ↦
+      let e = case as_answer c.tagged_from.ensures.result_value w.in_default.is in
+      rw e
+]

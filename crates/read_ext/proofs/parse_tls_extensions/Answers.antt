@@ -2,14 +2,14 @@
 -- Assumes nothing.
 use mathlib.Core.Path.{ap}
 use Rattle.read_ext.specs.Extensions.{sound, extensions}
-use Rattle.read_ext.specs.declared.Reach.{Reach}
+use Rattle.list.specs.declared.steps.Counted.{Counted}
 use Rattle.read_ext.proofs.Turns.{is_sound, is_damaged}
 use Rattle.read_ext.proofs.parse_tls_extensions.Goals as goal
 
 pub returns-then-items-block : goal.returns-then-items-block
 unfolding extensions
 returns-then-items-block c =
-    rw (is_sound _ _ c.count_items-items.ensures c.if-items-block.true) (ap (λ (x : Reach). sound x.count) c.count_items-items.ensures)
+    rw (is_sound _ _ c.count_items-items.ensures c.if-items-block.true) (ap (λ (x : Counted). sound x.count) c.count_items-items.ensures)
 
 pub returns-else-items-block : goal.returns-else-items-block
 unfolding extensions

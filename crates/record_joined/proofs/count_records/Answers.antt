@@ -3,9 +3,9 @@
 use mathlib.Core.Path.{◌≡◌, sym, ap, ◌∙◌}
 use native.Mathlib.Omega.{arith}
 use lib.ListN.{length}
+use Rattle.refusal.specs.Answers.{as_answer}
 use Rattle.refusal.proofs.Told.{case}
 use Rattle.list.proofs.Walk.{rest_all, rest_on, rest_end}
-use Rattle.record.specs.Records.{raw_says}
 use Rattle.record.specs.declared.TlsRawRecord.{TlsRawRecord}
 use Rattle.record_joined.specs.Joined.{record_from, records, tallied}
 use Rattle.record_joined.proofs.Joined.{message_sum, past_records, left, by_records, from_lies, few_messages}
@@ -17,10 +17,10 @@ loop-r-init c =
     let e : records s ≡ left s 0 = rest_all (record_from s) (λ (r : TlsRawRecord). r.next) (length s) in
     (omega arith, omega arith, omega (arith, ap length e), omega (arith, ap (message_sum s) e), ap (λ rs. past_records rs 0) e)
 
-pub returns-in-Refused : goal.returns-in-Refused
+pub returns : goal.returns
 unfolding tallied
-returns-in-Refused c =
-    let e = case raw_says c.record_from.ensures c.in-Refused.is in
+returns c =
+    let e = case as_answer c.record_from.ensures c.in_default.is in
     let z = rest_end (by_records _) c.loop-r.end e in
     let i = c.loop-r.invariant in
     let n : c.loop-r.records ≡ length (records c.args.s.now) = sym (i.2 ∙ rw z (omega arith)) in
@@ -28,32 +28,11 @@ returns-in-Refused c =
     let p : c.loop-r.end ≡ past_records (records c.args.s.now) 0 = sym (i.4 ∙ rw z) in
     rw (n, m, p)
 
-pub overflow_add-messages : goal.overflow_add-messages
-overflow_add-messages c =
-    let e = case raw_says c.record_from.ensures c.in-Got.is in
-    let i = from_lies _ _ e in
-    let f = few_messages c.args.s.now c.in-Got.r in
-    omega (arith, i, f, c.messages_in-messages.ensures)
-
-pub overflow_add-records : goal.overflow_add-records
-overflow_add-records c =
-    let e = case raw_says c.record_from.ensures c.in-Got.is in
-    let i = from_lies _ _ e in
-    let f = few_messages c.args.s.now c.in-Got.r in
-    omega (arith, i, f, c.messages_in-messages.ensures)
-
-pub loop-r-smaller : goal.loop-r-smaller
-loop-r-smaller c =
-    let e = case raw_says c.record_from.ensures c.in-Got.is in
-    let i = from_lies _ _ e in
-    let f = few_messages c.args.s.now c.in-Got.r in
-    omega (arith, i, f, c.messages_in-messages.ensures)
-
 pub loop-r-preserved : goal.loop-r-preserved
 loop-r-preserved c =
-    let e = case raw_says c.record_from.ensures c.in-Got.is in
+    let e = case as_answer c.record_from.ensures c.in-Ok.is in
     let i = from_lies _ _ e in
-    let f = few_messages c.args.s.now c.in-Got.r in
+    let f = few_messages c.args.s.now c.in-Ok.r in
     let o = rest_on (by_records _) c.loop-r.end e in
     let v = c.loop-r.invariant in (
       omega (arith, i, f),

@@ -1,20 +1,19 @@
--- `record_many::tls_parser_many` meets its contract: the first record decides. Assumes nothing.
-use mathlib.Core.Path.{ap}
-use Rattle.refusal.specs.Answers.{accepted, refused}
-use Rattle.refusal.proofs.Told.{case}
-use Rattle.content_walk.specs.ContentWalks.{past_says}
-use Rattle.record_many.specs.Many.{many}
-use Rattle.record_many.proofs.Records.{past_got, past_not}
+-- `record_many::tls_parser_many` meets its contract: the first record decides, and a step tells of
+-- the record that is found where it is asked. Assumes nothing.
+use native.Mathlib.Omega.{arith}
+use Rattle.std.proofs.Common.{rules}
+use Rattle.list.proofs.Stepping.{onward, counted, tells}
+use Rattle.record_many.specs.Many.{many, record_past, records_told}
+use Rattle.record_many.proofs.Records.{by_records}
 use Rattle.record_many.proofs.tls_parser_many.Goals as goal
 
-pub returns-in-Refused : goal.returns-in-Refused
-unfolding many
-returns-in-Refused c =
-    let e = past_not _ _ (case past_says c.past_record.ensures c.in-Refused.is) in
-    rw e (ap refused c.first_refusal.ensures)
+pub count-requires-clause-moves_on : goal.count-requires-clause-moves_on
+unfolding record_past
+count-requires-clause-moves_on c =
+    λ at next b s. onward (by_records c.args.i.now) (search rules)
 
-pub returns-in-Got : goal.returns-in-Got
-unfolding many
-returns-in-Got c =
-    let e = past_got _ _ (case past_says c.past_record.ensures c.in-Got.is) in
-    rw e.1 (ap accepted c.count_on.ensures)
+pub returns : goal.returns
+unfolding many record_past records_told
+returns c =
+    let n = counted (by_records c.args.i.now) c.count.ensures.1 (tells (λ at r b s. search rules)) in
+    grind arith

@@ -2,20 +2,21 @@
 -- left add is what all of them add. Assumes nothing.
 use mathlib.Core.Path.{◌≡◌, sym, ap, ◌∙◌}
 use native.Mathlib.Omega.{arith}
+use Rattle.refusal.specs.Answers.{as_answer}
 use Rattle.refusal.proofs.Told.{case}
 use Rattle.list.proofs.Walk.{rest_end}
-use Rattle.message.specs.Messages.{message_says}
 use Rattle.record_walk.specs.Walks.{messages}
-use Rattle.record_walk.proofs.Walking.{left, by_messages, all_from}
+use Rattle.list.proofs.Stepping.{all_from}
+use Rattle.record_walk.proofs.Walking.{left, by_messages}
 use Rattle.record_tally.specs.Tally.{clients_of, servers_of, cut_of, hello_tally}
-use Rattle.record_tally.proofs.Tally.{Turn, walk_turn, walk_end}
+use Rattle.record_tally.proofs.Tally.{walk_turn, walk_end, of_each}
 use Rattle.record_tally.proofs.count_hellos.Goals as goal
 
 pub loop-m-init : goal.loop-m-init
 loop-m-init c =
     let s = c.args.s.now in
-    let e : messages s ≡ left s 0 = all_from s 0 in
-    rw c.new-walk.ensures (
+    let e : messages s ≡ left s 0 = all_from (by_messages s) 0 in
+    rw (c.new-sum.ensures, c.new-walk.ensures) (
       omega arith,
       omega arith,
       omega arith,
@@ -24,44 +25,42 @@ loop-m-init c =
       omega (arith, ap cut_of e),
     )
 
-pub returns-in-Refused : goal.returns-in-Refused
+pub returns-in_default : goal.returns-in_default
 unfolding hello_tally
-returns-in-Refused c =
+returns-in_default c =
     let s = c.args.s.now in
-    let e = walk_end s c.loop-m.walk (case message_says c.next-walked.ensures.message_value c.in-Refused.is) in
+    let e = walk_end s c.loop-m.walk (case as_answer c.next-walked.ensures.message_value c.in_default.is) in
     let z = rest_end (by_messages s) c.loop-m.walk.next e.1 in
     let i = c.loop-m.invariant in
-    let n : c.loop-m.clients ≡ clients_of (messages s) = sym (i.3 ∙ rw z (omega arith)) in
-    let m : c.loop-m.servers ≡ servers_of (messages s) = sym (i.4 ∙ rw z (omega arith)) in
-    let k : c.loop-m.cut ≡ cut_of (messages s) = sym (i.5 ∙ rw z (omega arith)) in
-    rw (n, m, k)
+    of_each c.loop-m.sum
+    (sym (i.3 ∙ rw z (omega arith))) (sym (i.4 ∙ rw z (omega arith))) (sym (i.5 ∙ rw z (omega arith)))
 
-pub overflow_add-clients : goal.overflow_add-clients
-overflow_add-clients c =
-    let turn : Turn c.args.s.now c.loop-m.walk c.next-walked.result.walk c.count_kind-one.result = let e = case message_says c.next-walked.ensures.message_value c.in-Got.is in
-    walk_turn _ c.loop-m.walk e c.next-walked.ensures.walk_value c.count_kind-one.ensures in
+pub overflow_add-sum : goal.overflow_add-sum
+overflow_add-sum c =
+    let turn = walk_turn c.args.s.now c.loop-m.walk (case as_answer c.next-walked.ensures.message_value c.in-Ok.is)
+    c.next-walked.ensures.walk_value c.count_kind-one.ensures in
     omega (arith, turn)
 
-pub overflow_add-servers : goal.overflow_add-servers
-overflow_add-servers c =
-    let turn : Turn c.args.s.now c.loop-m.walk c.next-walked.result.walk c.count_kind-one.result = let e = case message_says c.next-walked.ensures.message_value c.in-Got.is in
-    walk_turn _ c.loop-m.walk e c.next-walked.ensures.walk_value c.count_kind-one.ensures in
+pub overflow_add-sum-in-loop-m : goal.overflow_add-sum-in-loop-m
+overflow_add-sum-in-loop-m c =
+    let turn = walk_turn c.args.s.now c.loop-m.walk (case as_answer c.next-walked.ensures.message_value c.in-Ok.is)
+    c.next-walked.ensures.walk_value c.count_kind-one.ensures in
     omega (arith, turn)
 
-pub overflow_add-cut : goal.overflow_add-cut
-overflow_add-cut c =
-    let turn : Turn c.args.s.now c.loop-m.walk c.next-walked.result.walk c.count_kind-one.result = let e = case message_says c.next-walked.ensures.message_value c.in-Got.is in
-    walk_turn _ c.loop-m.walk e c.next-walked.ensures.walk_value c.count_kind-one.ensures in
+pub overflow_add-sum-in-loop-m-2 : goal.overflow_add-sum-in-loop-m-2
+overflow_add-sum-in-loop-m-2 c =
+    let turn = walk_turn c.args.s.now c.loop-m.walk (case as_answer c.next-walked.ensures.message_value c.in-Ok.is)
+    c.next-walked.ensures.walk_value c.count_kind-one.ensures in
     omega (arith, turn)
 
 pub loop-m-smaller : goal.loop-m-smaller
 loop-m-smaller c =
-    let turn : Turn c.args.s.now c.loop-m.walk c.next-walked.result.walk c.count_kind-one.result = let e = case message_says c.next-walked.ensures.message_value c.in-Got.is in
-    walk_turn _ c.loop-m.walk e c.next-walked.ensures.walk_value c.count_kind-one.ensures in
+    let turn = walk_turn c.args.s.now c.loop-m.walk (case as_answer c.next-walked.ensures.message_value c.in-Ok.is)
+    c.next-walked.ensures.walk_value c.count_kind-one.ensures in
     omega (arith, turn)
 
 pub loop-m-preserved : goal.loop-m-preserved
 loop-m-preserved c =
-    let turn : Turn c.args.s.now c.loop-m.walk c.next-walked.result.walk c.count_kind-one.result = let e = case message_says c.next-walked.ensures.message_value c.in-Got.is in
-    walk_turn _ c.loop-m.walk e c.next-walked.ensures.walk_value c.count_kind-one.ensures in
+    let turn = walk_turn c.args.s.now c.loop-m.walk (case as_answer c.next-walked.ensures.message_value c.in-Ok.is)
+    c.next-walked.ensures.walk_value c.count_kind-one.ensures in
     omega (arith, turn)

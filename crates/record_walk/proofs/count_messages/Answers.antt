@@ -1,57 +1,24 @@
--- `record_walk::count_messages` meets its contract: what was counted and what is left are all the
--- messages. Assumes nothing.
-use mathlib.Core.Path.{sym, ap, ◌∙◌}
-use native.Mathlib.Omega.{arith}
-use lib.ListN.{length}
-use Rattle.refusal.proofs.Told.{case}
-use Rattle.list.specs.Stopping.{end_of}
-use Rattle.list.proofs.Walk.{rest_on, rest_end}
-use Rattle.envelope.specs.Opening.{head_says}
-use Rattle.record_walk.specs.Walks.{past_all}
-use Rattle.record_walk.proofs.Walking.{by_messages, all_from, head_met, head_not_met}
+-- `record_walk::count_messages` meets its contract: a step tells of the message that is met where
+-- it is asked. Assumes nothing.
+use Rattle.std.proofs.Common.{rules}
+use Rattle.list.proofs.Stepping.{onward, counted, tells}
+use Rattle.record_walk.specs.Walks.{met_head}
+use Rattle.record_walk.proofs.Walking.{by_messages}
 use Rattle.record_walk.proofs.count_messages.Goals as goal
 
-pub loop-stop-init : goal.loop-stop-init
-loop-stop-init c =
-    let s = c.args.s.now in
-    let from = c.args.from in
-    (omega arith, omega (arith, ap length (all_from s from)), ap (λ xs. past_all xs from) (all_from s from))
+pub count_to_stop-requires-clause-moves_on : goal.count_to_stop-requires-clause-moves_on
+unfolding met_head
+count_to_stop-requires-clause-moves_on c =
+    λ at next b s. onward (by_messages c.args.s.now) (search rules)
 
-pub returns-in-Refused : goal.returns-in-Refused
-unfolding end_of
-returns-in-Refused c =
-    let e = head_not_met _ _
-    (case head_says c.meet_tls_message.ensures c.in-Refused.is) in
-    let z = rest_end (by_messages _) c.loop-stop.end e in
+pub returns : goal.returns
+unfolding met_head
+returns c =
+    let h = c.count_to_stop.ensures in
+    let n = counted (by_messages _) h (tells (λ at r b s. search rules)) in
+    let e = h.halts in
     record {
-      count_value = sym (c.loop-stop.invariant.1 ∙ rw z (omega arith));
-      end_value = sym (c.loop-stop.invariant.2 ∙ rw z);
-      end_value_2 = e;
+      count_value = n.0;
+      end_value = n.1;
+      end_value_2 = search rules;
     }
-
-pub overflow_add-count : goal.overflow_add-count
-overflow_add-count c =
-    let m = head_met _ _
-    (case head_says c.meet_tls_message.ensures c.in-Got.is) in
-    let i = (by_messages _).on c.loop-stop.end _ m.1 in
-    omega (arith, i, m.2)
-
-pub loop-stop-smaller : goal.loop-stop-smaller
-loop-stop-smaller c =
-    let m = head_met _ _
-    (case head_says c.meet_tls_message.ensures c.in-Got.is) in
-    let i = (by_messages _).on c.loop-stop.end _ m.1 in
-    omega (arith, i, m.2)
-
-pub loop-stop-preserved : goal.loop-stop-preserved
-unfolding end_of
-loop-stop-preserved c =
-    let m = head_met _ _
-    (case head_says c.meet_tls_message.ensures c.in-Got.is) in
-    let i = (by_messages _).on c.loop-stop.end _ m.1 in (
-      omega (arith, i, m.2),
-      c.loop-stop.invariant.1
-          ∙ rw (rest_on (by_messages _) c.loop-stop.end m.1, m.2) (omega arith),
-      c.loop-stop.invariant.2
-          ∙ rw (rest_on (by_messages _) c.loop-stop.end m.1, m.2),
-    )

@@ -1,7 +1,6 @@
 -- `record_walk::opens_any` meets its contract: of 0x00 and 0x05 no body is read, and the others'
 -- are handed out whole; of every other type the body of no bytes is refused. Assumes nothing.
 use Prim.Native.Nat.{ℕ, zero, suc, ◌+◌, ◌-◌, ◌<◌, ◌≤◌}
-use mathlib.Core.Bool.{true, false}
 use mathlib.Core.Path.{◌≡◌, refl}
 use mathlib.Core.Logic.{◌⊎◌, inl, inr}
 use mathlib.Core.List.{[]}
@@ -83,16 +82,13 @@ module _ (k : ℕ) (lacks : (k ≡ 0x00) ⊎ ((k ≡ 0x05) ⊎ ((k ≡ 0x0c) ⊎
   shut : OpensAny k → ⊥
   shut o = not_both (o []).1 empty-refused.1
 
-no : false ≡ true → ⊥
-no e = let z : ◌≡◌ {A = ℕ} 0 1 = cc in omega arith
-
 pub returns-in_default : goal.returns-in_default
 returns-in_default c =
-    (λ e. absurd (no e), λ o. absurd (shut _ c.in_default.in_default-own.rest.1 (inl (omega arith)) o))
+    (λ e. cc, λ o. absurd (shut _ c.in_default.in_default-own.rest.1 (inl (omega arith)) o))
 
 pub returns-in_default-2 : goal.returns-in_default-2
 returns-in_default-2 c =
-    (λ e. absurd (no e), λ o. absurd (shut _ c.in_default.in_default-own.rest.1 (inr (omega arith)) o))
+    (λ e. cc, λ o. absurd (shut _ c.in_default.in_default-own.rest.1 (inr (omega arith)) o))
 
 pub returns-in-0 : goal.returns-in-0
 returns-in-0 c = (λ e. lone _ c.in-0.in-0-own.keys1, λ o. refl)

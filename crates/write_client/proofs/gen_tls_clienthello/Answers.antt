@@ -17,31 +17,15 @@ returns-then-not-lies_in c =
 
 pub returns : goal.returns
 returns c =
-    let o = by_parts client c.args.i.now c.args.m 0x01 _ c.lies_in.ensures (ap not c.if-not-lies_in.false) (
-      rw (
-        c.random-random.ensures,
-        c.session_id-id.ensures,
-        c.part_of-ciphers.ensures,
-        c.part_of-comp.ensures,
-        c.ext-ext.ensures,
-      ) at c.gen_clienthello-text.ensures.answer_value,
-      (
-        rw (
-          c.random-random.ensures,
-          c.session_id-id.ensures,
-          c.part_of-ciphers.ensures,
-          c.part_of-comp.ensures,
-          c.ext-ext.ensures,
-        ) at c.gen_clienthello-text.ensures.len_value,
-        rw (
-          c.random-random.ensures,
-          c.session_id-id.ensures,
-          c.part_of-ciphers.ensures,
-          c.part_of-comp.ensures,
-          c.ext-ext.ensures,
-        ) at c.gen_clienthello-text.ensures.out_after,
-      ),
-    ) in
+    let w = rw (
+      c.random-random.ensures,
+      c.session_id-id.ensures,
+      c.part_of-ciphers.ensures,
+      c.part_of-comp.ensures,
+      c.ext-ext.ensures,
+    ) at c.gen_clienthello.ensures in
+    let o = by_parts client c.args.i.now c.args.m 0x01 _ c.lies_in.ensures (ap not c.if-not-lies_in.false)
+    (w.answer_value, (w.len_value, w.out_after)) in
     record {
       result_value = o.0;
       out_after = o.1;

@@ -1,13 +1,13 @@
 -- `write_content::gen_alert` meets its contract: the level is refused, or the two bytes are put in.
 -- Assumes nothing.
 use Prim.Native.Nat.{ℕ}
-use mathlib.Core.Path.{◌≡◌, ap, sym, ◌∙◌}
+use mathlib.Core.Path.{◌≡◌, sym, ◌∙◌}
 use mathlib.Core.Bool.{true, false}
 use mathlib.Core.List.{[], ◌∷◌}
 use Rattle.refusal.specs.Answers.{accepted, refused}
 use Rattle.refusal.specs.Refusals.{unplaced}
 use Rattle.refusal.specs.declared.Reason.TheVariants.{BadLength}
-use Rattle.wire.proofs.Puts.{text_refused}
+use Rattle.write_rules.proofs.Messages.{told_refused}
 use Rattle.content.specs.Contents.{one_or_two}
 use Rattle.write_content.specs.ContentTexts.{alert_text}
 use Rattle.write_content.proofs.gen_alert.Goals as goal
@@ -23,19 +23,19 @@ level-may severity code e = rw e
 
 pub returns-then-not-one_or_two : goal.returns-then-not-one_or_two
 returns-then-not-one_or_two c =
-    let t = level-not c.args.severity c.args.code (sym c.one_or_two.ensures ∙ c.if-not-one_or_two.true) in
-    let w = text_refused 0 c.args.out.now t in
+    let o = told_refused _ (level-not c.args.severity c.args.code (sym c.one_or_two.ensures ∙ c.if-not-one_or_two.true))
+    c.refused.ensures.answer_value c.refused.ensures.len_value in
     record {
-      answer_value = ap refused c.unplaced.ensures ∙ sym w.says;
-      len_value = rw t;
-      out_after = sym w.leaves;
+      answer_value = o.0;
+      len_value = o.1.0;
+      out_after = o.1.1;
     }
 
 pub returns : goal.returns
 returns c =
     let t = level-may c.args.severity c.args.code (sym c.one_or_two.ensures ∙ c.if-not-one_or_two.false) in
     record {
-      answer_value = rw t c.gen_bytes-answer.ensures.result_value;
+      answer_value = rw t c.gen_bytes.ensures.result_value;
       len_value = rw t;
-      out_after = rw t c.gen_bytes-answer.ensures.out_after;
+      out_after = rw t c.gen_bytes.ensures.out_after;
     }

@@ -8,7 +8,7 @@ pub returns : goal.returns
 unfolding cipher_spec_text
 returns c =
     record {
-      answer_value = c.gen_bytes-answer.ensures.result_value;
+      answer_value = c.gen_bytes.ensures.result_value;
       len_value = refl;
-      out_after = c.gen_bytes-answer.ensures.out_after;
+      out_after = c.gen_bytes.ensures.out_after;
     }

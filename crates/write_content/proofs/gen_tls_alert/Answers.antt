@@ -4,6 +4,6 @@ use Rattle.write_content.proofs.gen_tls_alert.Goals as goal
 pub returns : goal.returns
 returns c =
     record {
-      result_value = c.gen_alert-alert.ensures.answer_value;
-      out_after = c.gen_alert-alert.ensures.out_after;
+      result_value = c.gen_alert.ensures.answer_value;
+      out_after = c.gen_alert.ensures.out_after;
     }

@@ -5,6 +5,6 @@ use Rattle.write_content.proofs.gen_tls_changecipherspec.Goals as goal
 pub returns : goal.returns
 returns c =
     record {
-      result_value = c.gen_changecipherspec-spec.ensures.answer_value;
-      out_after = c.gen_changecipherspec-spec.ensures.out_after;
+      result_value = c.gen_changecipherspec.ensures.answer_value;
+      out_after = c.gen_changecipherspec.ensures.out_after;
     }

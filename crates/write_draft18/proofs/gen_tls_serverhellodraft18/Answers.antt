@@ -17,8 +17,9 @@ returns-then-not-lies_in c =
 
 pub returns : goal.returns
 returns c =
+    let w = rw (c.random-random.ensures, c.ext-ext.ensures) at c.gen_serverhellodraft18.ensures in
     let o = by_parts draft18 c.args.i.now c.args.m 0x02 _ c.lies_in.ensures (ap not c.if-not-lies_in.false)
-    (rw (c.random-random.ensures, c.ext-ext.ensures) at c.gen_serverhellodraft18-text.ensures.answer_value, (rw (c.random-random.ensures, c.ext-ext.ensures) at c.gen_serverhellodraft18-text.ensures.len_value, rw (c.random-random.ensures, c.ext-ext.ensures) at c.gen_serverhellodraft18-text.ensures.out_after)) in
+    (w.answer_value, (w.len_value, w.out_after)) in
     record {
       result_value = o.0;
       out_after = o.1;

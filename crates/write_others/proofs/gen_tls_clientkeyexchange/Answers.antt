@@ -1,28 +1,23 @@
--- `write_others::gen_tls_clientkeyexchange` meets its contract, by that of `gen_view` for each of
--- its three cases. Assumes nothing.
-use Rattle.write_rules.specs.MessageTexts.{sized_text}
+-- `write_others::gen_tls_clientkeyexchange` meets its contract, by that of `gen_view`: the kind
+-- tells the form. Assumes nothing.
+use mathlib.Core.Path.{◌≡◌}
+use Rattle.refusal.specs.Answers.{then}
+use Rattle.write_rules.specs.MessageTexts.{view_text, sized_text}
+use Rattle.write_others.specs.Exchange.{exchange_text, part_text}
 use Rattle.write_others.proofs.Parts.{raw_view}
 use Rattle.write_others.proofs.gen_tls_clientkeyexchange.Goals as goal
+use Rattle.write_others.proofs.gen_tls_clientkeyexchange.Goals.{in-Unknown, in-Dh, in-Ecdh}
 
-pub returns-in-Unknown : goal.returns-in-Unknown
-returns-in-Unknown c =
-    record {
-      result_value = rw c.in-Unknown.is (rw (raw_view c.args.i.now _) at c.gen_view.ensures.result_value);
-      out_after = rw c.in-Unknown.is (rw (raw_view c.args.i.now _) at c.gen_view.ensures.out_after);
-    }
-
-pub returns-in-Dh : goal.returns-in-Dh
+pub returns : goal.returns
 unfolding sized_text
-returns-in-Dh c =
+returns c =
+    let t : exchange_text c.args.i.now c.args.m ≡ then (view_text c.args.i.now c.match-m.form.1) (part_text c.match-m.form.0) =
+    elim c.match-m.branch [
+      | in-Unknown w ↦ rw (w.in-Unknown.is, w.form-is, raw_view)
+      | in-Dh w ↦ rw (w.in-Dh.is, w.form-is)
+      | in-Ecdh w ↦ rw (w.in-Ecdh.is, w.form-is)
+    ] in
     record {
-      result_value = rw c.in-Dh.is c.gen_view-in-Dh.ensures.result_value;
-      out_after = rw c.in-Dh.is c.gen_view-in-Dh.ensures.out_after;
-    }
-
-pub returns-in-Ecdh : goal.returns-in-Ecdh
-unfolding sized_text
-returns-in-Ecdh c =
-    record {
-      result_value = rw c.in-Ecdh.is c.gen_view-in-Ecdh.ensures.result_value;
-      out_after = rw c.in-Ecdh.is c.gen_view-in-Ecdh.ensures.out_after;
+      result_value = rw t c.gen_view.ensures.result_value;
+      out_after = rw t c.gen_view.ensures.out_after;
     }

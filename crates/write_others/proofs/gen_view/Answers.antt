@@ -2,13 +2,13 @@
 -- says what came of it. Assumes nothing.
 use mathlib.Core.Bool.{not}
 use mathlib.Core.Path.{ap}
-use Rattle.write_others.specs.Exchange.{form_text}
+use Rattle.write_others.specs.Exchange.{part_text}
 use Rattle.write_others.proofs.Parts.{outside_refused, by_part}
 use Rattle.write_others.proofs.gen_view.Goals as goal
 
 pub returns-then-not-lies_in : goal.returns-then-not-lies_in
 returns-then-not-lies_in c =
-    let o = outside_refused _ _ (form_text c.args.form) _ _ c.lies_in.ensures (ap not c.if-not-lies_in.true)
+    let o = outside_refused _ _ (part_text c.args.form) _ _ c.lies_in.ensures (ap not c.if-not-lies_in.true)
     c.unplaced.ensures in
     record {
       result_value = o.0;
@@ -17,8 +17,8 @@ returns-then-not-lies_in c =
 
 pub returns : goal.returns
 returns c =
-    let o = by_part _ _ (form_text c.args.form) _ _ c.lies_in.ensures _ c.part_of-part.ensures (ap not c.if-not-lies_in.false)
-    (c.gen_form-text.ensures.answer_value, (c.gen_form-text.ensures.len_value, c.gen_form-text.ensures.out_after)) in
+    let o = by_part _ _ (part_text c.args.form) _ _ c.lies_in.ensures _ c.part_of.ensures (ap not c.if-not-lies_in.false)
+    (c.gen_form.ensures.answer_value, (c.gen_form.ensures.len_value, c.gen_form.ensures.out_after)) in
     record {
       result_value = o.0;
       out_after = o.1;

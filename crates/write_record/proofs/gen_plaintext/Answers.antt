@@ -1,37 +1,35 @@
--- `write_record::gen_plaintext` meets its contract: the content is too large, or there is no
--- room, or the record is put in. Assumes nothing.
-use mathlib.Core.Path.{sym, ◌∙◌}
-use native.Mathlib.Omega.{arith}
-use Rattle.refusal.proofs.Told.{case}
-use Rattle.wire.specs.Parts.{part_says}
-use Rattle.write_record.proofs.Records.{record_not, record-out, record-in}
+-- `write_record::gen_plaintext` meets its contract: the content is too large, or `gen_text` says
+-- what came of the record. Assumes nothing.
+use mathlib.Core.Path.{◌≡◌, sym, ◌∙◌}
+use mathlib.Core.Bool.{true}
+use lib.ListN.{length}
+use Rattle.std.proofs.Common.{rules}
+use Rattle.field.specs.Texts.{allowed}
+use Rattle.record.specs.Records.{fragment}
+use Rattle.write_rules.proofs.Messages.{by_text, told_refused}
+use Rattle.write_record.proofs.Records.{record_not, record_may, record_long}
 use Rattle.write_record.proofs.gen_plaintext.Goals as goal
 
 pub returns-then-not-may_follow : goal.returns-then-not-may_follow
 returns-then-not-may_follow c =
-    let o = record_not c.args.hdr _ _ (sym c.may_follow.ensures ∙ c.if-not-may_follow.true) c.unplaced.ensures in
+    let o = told_refused _ (record_not c.args.hdr _ (sym c.may_follow.ensures ∙ c.if-not-may_follow.true))
+    c.refused.ensures.answer_value c.refused.ensures.len_value in
     record {
       answer_value = o.0;
       len_value = o.1.0;
       out_after = o.1.1;
     }
 
-pub returns-in-Refused : goal.returns-in-Refused
-returns-in-Refused c =
-    let o = record-out c.args.hdr _ _ (sym c.may_follow.ensures ∙ c.if-not-may_follow.false)
-    (case part_says c.room_for.ensures c.in-Refused.is) in
-    record {
-      answer_value = o.0;
-      len_value = o.1.0;
-      out_after = o.1.1;
-    }
+pub gen_text-requires : goal.gen_text-requires
+gen_text-requires c =
+    let m : allowed fragment (length c.args.msg.now) ≡ true = sym c.may_follow.ensures ∙ c.if-not-may_follow.false in
+    λ d h p e. search rules
 
-pub returns-in-Got : goal.returns-in-Got
-returns-in-Got c =
-    let o = record-in c.args.hdr _ _ (sym c.may_follow.ensures ∙ c.if-not-may_follow.false) _ _ _
-    (omega arith) (omega arith)
-    (case part_says c.room_for.ensures c.in-Got.is) c.gen_be.ensures.out_after c.gen_be-in-Got.ensures.out_after
-    c.gen_length_data.ensures.out_after in
+pub returns : goal.returns
+returns c =
+    let o = by_text _ (record_may c.args.hdr _ (sym c.may_follow.ensures ∙ c.if-not-may_follow.false)) (record_long c.args.hdr _)
+    c.gen_text.ensures.answer_value c.gen_text.ensures.len_value c.gen_text.ensures.out_after
+    (λ d d' h r. search rules) in
     record {
       answer_value = o.0;
       len_value = o.1.0;

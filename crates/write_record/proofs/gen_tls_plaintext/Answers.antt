@@ -5,6 +5,6 @@ use Rattle.write_record.proofs.gen_tls_plaintext.Goals as goal
 pub returns : goal.returns
 returns c =
     record {
-      result_value = c.gen_plaintext-text.ensures.answer_value;
-      out_after = c.gen_plaintext-text.ensures.out_after;
+      result_value = c.gen_plaintext.ensures.answer_value;
+      out_after = c.gen_plaintext.ensures.out_after;
     }

@@ -2,24 +2,24 @@
 -- and length are put in. Assumes nothing.
 use mathlib.Core.Path.{sym, ◌∙◌}
 use native.Mathlib.Omega.{arith}
-use Rattle.refusal.proofs.Told.{case}
-use Rattle.wire.specs.Parts.{part_says}
+use Rattle.refusal.specs.Answers.{as_answer}
+use Rattle.refusal.proofs.Told.{case, hands_on}
 use Rattle.write_rules.proofs.Messages.{head_not, head-out, head_in}
 use Rattle.write_rules.proofs.gen_head.Goals as goal
 
-pub returns-in-Refused : goal.returns-in-Refused
-returns-in-Refused c =
+pub returns-in_err-p : goal.returns-in_err-p
+returns-in_err-p c =
     let o = head-out _ _ _ (sym c.width_holds.ensures ∙ c.if-width_holds.true)
-    (case part_says c.room_for.ensures c.in-Refused.is) in
+    (case as_answer c.room_for.ensures c.in_err-p.was) in
     record {
-      result_value = sym o.says;
+      result_value = hands_on _ c.from_residual.ensures (sym o.says);
       out_after = sym o.leaves;
     }
 
-pub returns-in-Got : goal.returns-in-Got
-returns-in-Got c =
+pub returns-in_ok-p : goal.returns-in_ok-p
+returns-in_ok-p c =
     let o = head_in _ _ _ (sym c.width_holds.ensures ∙ c.if-width_holds.true) _ _ (omega arith)
-    (case part_says c.room_for.ensures c.in-Got.is) c.gen_be.ensures.out_after c.gen_be-in-Got.ensures.out_after in
+    (case as_answer c.room_for.ensures c.in_ok-p.was) c.gen_be.ensures.out_after c.gen_be-then-width_holds.ensures.out_after in
     record {
       result_value = sym o.says;
       out_after = sym o.leaves;

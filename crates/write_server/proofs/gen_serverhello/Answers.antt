@@ -1,181 +1,45 @@
--- `write_server::gen_serverhello` meets its contract: a part may not be written, or there is no
--- room, or fields and head are put in. Assumes nothing.
-use Prim.Native.Nat.{◌+◌}
-use mathlib.Core.Bool.{not, true}
-use mathlib.Core.Path.{ap, ◌≡◌, refl, sym, ◌∙◌}
+-- `write_server::gen_serverhello` meets its contract: a part may not be written, or `gen_message`
+-- says what came of the fields. Assumes nothing.
+use Prim.Native.Nat.{◌≤◌}
+use mathlib.Core.Path.{sym, ◌∙◌}
 use native.Mathlib.Omega.{arith}
 use lib.ListN.{length}
-use Rattle.refusal.proofs.Told.{case}
-use Rattle.wire.specs.Parts.{part_says}
-use Rattle.write_rules.specs.JoinTexts.{may_join, join_bytes, join_text}
-use Rattle.write_rules.specs.MessageTexts.{head_text}
-use Rattle.write_rules.proofs.Joins.{Joined, joined, join_refused, join_message, Ready, behind_head, fields_fit}
-use Rattle.write_rules.proofs.Joins.{join_in}
-use Rattle.write_rules.proofs.Messages.{Message, no_room}
+use Rattle.std.proofs.Common.{rules}
+use Rattle.write_rules.specs.JoinTexts.{join_bytes}
+use Rattle.write_rules.proofs.Joins.{join_refused, join_may}
+use Rattle.write_rules.proofs.Messages.{by_message}
 use Rattle.write_server.specs.Slices.{server_rows, server_parts}
-use Rattle.write_server.proofs.Lengths.{ServerBounds, parts_length, parts_bounds}
+use Rattle.write_server.proofs.Lengths.{may_write, may_bounds, may_length}
 use Rattle.write_server.proofs.gen_serverhello.Goals as goal
+
+pub overflow_add-n-2 : goal.overflow_add-n-2
+overflow_add-n-2 c = omega (arith, may_bounds _ _ _ c.writable.ensures c.if-not-writable.false)
+
+pub gen_message-requires : goal.gen_message-requires
+gen_message-requires c =
+    let m = may_write _ _ _ c.writable.ensures c.if-not-writable.false c.args.version c.args.cipher c.args.compression in
+    let l = may_length _ _ _ c.writable.ensures c.if-not-writable.false c.args.version c.args.cipher c.args.compression in
+    λ d h p e.
+    let k : length (join_bytes server_rows (server_parts c.args.version c.args.random.now c.args.id.now c.args.cipher c.args.compression) c.args.ext.now) ≤ length p.now = rw e (omega (arith, l, h)) in
+    search rules
 
 pub returns-then-not-writable : goal.returns-then-not-writable
 returns-then-not-writable c =
-    let o = join_refused server_rows ((server_parts c.args.version c.args.random.now c.args.id.now c.args.cipher
-    c.args.compression)) _ 0x02 _ (c.writable.ensures _ _ _)
-    (ap not c.if-not-writable.true) c.unplaced.ensures in
+    let o = join_refused server_rows (server_parts c.args.version c.args.random.now c.args.id.now c.args.cipher c.args.compression) _ 0x02 _
+    (sym (c.writable.ensures c.args.version c.args.cipher c.args.compression) ∙ c.if-not-writable.true)
+    c.refused.ensures.answer_value c.refused.ensures.len_value in
     record {
       answer_value = o.0;
       len_value = o.1.0;
       out_after = o.1.1;
     }
 
-pub overflow_add-n-2 : goal.overflow_add-n-2
-overflow_add-n-2 c =
-    let may : may_join server_rows ((server_parts c.args.version c.args.random.now c.args.id.now c.args.cipher
-    c.args.compression)) c.args.ext.now ≡ true = sym (c.writable.ensures _ _ _) ∙ c.if-not-writable.false in
-    let obey : Joined server_rows ((server_parts c.args.version c.args.random.now c.args.id.now c.args.cipher
-    c.args.compression)) c.args.ext.now = joined server_rows ((server_parts c.args.version c.args.random.now c.args.id.now c.args.cipher
-    c.args.compression)) _ (may) in
-    let bounds : ServerBounds c.args.id.now c.args.ext.now = parts_bounds c.args.version c.args.random.now _ c.args.cipher
-    c.args.compression _ (obey) in
-    omega (arith, bounds)
-
-pub overflow_add-len : goal.overflow_add-len
-overflow_add-len c =
-    let may : may_join server_rows ((server_parts c.args.version c.args.random.now c.args.id.now c.args.cipher
-    c.args.compression)) c.args.ext.now ≡ true = sym (c.writable.ensures _ _ _) ∙ c.if-not-writable.false in
-    let obey : Joined server_rows ((server_parts c.args.version c.args.random.now c.args.id.now c.args.cipher
-    c.args.compression)) c.args.ext.now = joined server_rows ((server_parts c.args.version c.args.random.now c.args.id.now c.args.cipher
-    c.args.compression)) _ (may) in
-    let bounds : ServerBounds c.args.id.now c.args.ext.now = parts_bounds c.args.version c.args.random.now _ c.args.cipher
-    c.args.compression _ (obey) in
-    omega (arith, bounds)
-
-pub slice_bounds-put_fields-count : goal.slice_bounds-put_fields-count
-slice_bounds-put_fields-count c =
-    let may : may_join server_rows ((server_parts c.args.version c.args.random.now c.args.id.now c.args.cipher
-    c.args.compression)) c.args.ext.now ≡ true = sym (c.writable.ensures _ _ _) ∙ c.if-not-writable.false in
-    let obey : Joined server_rows ((server_parts c.args.version c.args.random.now c.args.id.now c.args.cipher
-    c.args.compression)) c.args.ext.now = joined server_rows ((server_parts c.args.version c.args.random.now c.args.id.now c.args.cipher
-    c.args.compression)) _ (may) in
-    let bounds : ServerBounds c.args.id.now c.args.ext.now = parts_bounds c.args.version c.args.random.now _ c.args.cipher
-    c.args.compression _ (obey) in
-    let message : Message (head_text 0x02) 4 (join_text server_rows ((server_parts c.args.version c.args.random.now c.args.id.now c.args.cipher
-    c.args.compression)) c.args.ext.now)
-    (join_bytes server_rows ((server_parts c.args.version c.args.random.now c.args.id.now c.args.cipher
-    c.args.compression)) c.args.ext.now)
-    (40 + length c.args.id.now + length c.args.ext.now) = join_message server_rows ((server_parts c.args.version c.args.random.now c.args.id.now c.args.cipher
-    c.args.compression)) c.args.ext.now 0x02 _ (may)
-    (sym (parts_length c.args.version c.args.random.now c.args.id.now c.args.cipher c.args.compression c.args.ext.now
-    (obey))) (omega (arith, bounds)) in
-    let ready : Ready 0x02 server_rows ((server_parts c.args.version c.args.random.now c.args.id.now c.args.cipher
-    c.args.compression)) c.args.ext.now c.args.out.now
-    (40 + length c.args.id.now + length c.args.ext.now) c.in-Got.p = record {
-      may = may;
-      message = message;
-      place = case part_says c.room_for.ensures c.in-Got.is;
-    } in
-    behind_head (ready)
-
-pub slice_bounds-put_fields-start : goal.slice_bounds-put_fields-start
-slice_bounds-put_fields-start c =
-    let may : may_join server_rows ((server_parts c.args.version c.args.random.now c.args.id.now c.args.cipher
-    c.args.compression)) c.args.ext.now ≡ true = sym (c.writable.ensures _ _ _) ∙ c.if-not-writable.false in
-    let obey : Joined server_rows ((server_parts c.args.version c.args.random.now c.args.id.now c.args.cipher
-    c.args.compression)) c.args.ext.now = joined server_rows ((server_parts c.args.version c.args.random.now c.args.id.now c.args.cipher
-    c.args.compression)) _ (may) in
-    let bounds : ServerBounds c.args.id.now c.args.ext.now = parts_bounds c.args.version c.args.random.now _ c.args.cipher
-    c.args.compression _ (obey) in
-    let message : Message (head_text 0x02) 4 (join_text server_rows ((server_parts c.args.version c.args.random.now c.args.id.now c.args.cipher
-    c.args.compression)) c.args.ext.now)
-    (join_bytes server_rows ((server_parts c.args.version c.args.random.now c.args.id.now c.args.cipher
-    c.args.compression)) c.args.ext.now)
-    (40 + length c.args.id.now + length c.args.ext.now) = join_message server_rows ((server_parts c.args.version c.args.random.now c.args.id.now c.args.cipher
-    c.args.compression)) c.args.ext.now 0x02 _ (may)
-    (sym (parts_length c.args.version c.args.random.now c.args.id.now c.args.cipher c.args.compression c.args.ext.now
-    (obey))) (omega (arith, bounds)) in
-    let ready : Ready 0x02 server_rows ((server_parts c.args.version c.args.random.now c.args.id.now c.args.cipher
-    c.args.compression)) c.args.ext.now c.args.out.now
-    (40 + length c.args.id.now + length c.args.ext.now) c.in-Got.p = record {
-      may = may;
-      message = message;
-      place = case part_says c.room_for.ensures c.in-Got.is;
-    } in
-    omega (arith, (behind_head (ready)))
-
-pub put_fields-requires : goal.put_fields-requires
-put_fields-requires c =
-    let may : may_join server_rows ((server_parts c.args.version c.args.random.now c.args.id.now c.args.cipher
-    c.args.compression)) c.args.ext.now ≡ true = sym (c.writable.ensures _ _ _) ∙ c.if-not-writable.false in
-    let obey : Joined server_rows ((server_parts c.args.version c.args.random.now c.args.id.now c.args.cipher
-    c.args.compression)) c.args.ext.now = joined server_rows ((server_parts c.args.version c.args.random.now c.args.id.now c.args.cipher
-    c.args.compression)) _ (may) in
-    let bounds : ServerBounds c.args.id.now c.args.ext.now = parts_bounds c.args.version c.args.random.now _ c.args.cipher
-    c.args.compression _ (obey) in
-    let message : Message (head_text 0x02) 4 (join_text server_rows ((server_parts c.args.version c.args.random.now c.args.id.now c.args.cipher
-    c.args.compression)) c.args.ext.now)
-    (join_bytes server_rows ((server_parts c.args.version c.args.random.now c.args.id.now c.args.cipher
-    c.args.compression)) c.args.ext.now)
-    (40 + length c.args.id.now + length c.args.ext.now) = join_message server_rows ((server_parts c.args.version c.args.random.now c.args.id.now c.args.cipher
-    c.args.compression)) c.args.ext.now 0x02 _ (may)
-    (sym (parts_length c.args.version c.args.random.now c.args.id.now c.args.cipher c.args.compression c.args.ext.now
-    (obey))) (omega (arith, bounds)) in
-    let ready : Ready 0x02 server_rows ((server_parts c.args.version c.args.random.now c.args.id.now c.args.cipher
-    c.args.compression)) c.args.ext.now c.args.out.now
-    (40 + length c.args.id.now + length c.args.ext.now) c.in-Got.p = record {
-      may = may;
-      message = message;
-      place = case part_says c.room_for.ensures c.in-Got.is;
-    } in
-    fields_fit (ready)
-
-pub returns-in-Refused : goal.returns-in-Refused
-returns-in-Refused c =
-    let may : may_join server_rows ((server_parts c.args.version c.args.random.now c.args.id.now c.args.cipher
-    c.args.compression)) c.args.ext.now ≡ true = sym (c.writable.ensures _ _ _) ∙ c.if-not-writable.false in
-    let obey : Joined server_rows ((server_parts c.args.version c.args.random.now c.args.id.now c.args.cipher
-    c.args.compression)) c.args.ext.now = joined server_rows ((server_parts c.args.version c.args.random.now c.args.id.now c.args.cipher
-    c.args.compression)) _ (may) in
-    let bounds : ServerBounds c.args.id.now c.args.ext.now = parts_bounds c.args.version c.args.random.now _ c.args.cipher
-    c.args.compression _ (obey) in
-    let message : Message (head_text 0x02) 4 (join_text server_rows ((server_parts c.args.version c.args.random.now c.args.id.now c.args.cipher
-    c.args.compression)) c.args.ext.now)
-    (join_bytes server_rows ((server_parts c.args.version c.args.random.now c.args.id.now c.args.cipher
-    c.args.compression)) c.args.ext.now)
-    (40 + length c.args.id.now + length c.args.ext.now) = join_message server_rows ((server_parts c.args.version c.args.random.now c.args.id.now c.args.cipher
-    c.args.compression)) c.args.ext.now 0x02 _ (may)
-    (sym (parts_length c.args.version c.args.random.now c.args.id.now c.args.cipher c.args.compression c.args.ext.now
-    (obey))) (omega (arith, bounds)) in
-    let o = no_room _ (message) refl (case part_says c.room_for.ensures c.in-Refused.is) in
-    record {
-      answer_value = o.0;
-      len_value = o.1.0;
-      out_after = o.1.1;
-    }
-
-pub returns-in-Got : goal.returns-in-Got
-returns-in-Got c =
-    let may : may_join server_rows ((server_parts c.args.version c.args.random.now c.args.id.now c.args.cipher
-    c.args.compression)) c.args.ext.now ≡ true = sym (c.writable.ensures _ _ _) ∙ c.if-not-writable.false in
-    let obey : Joined server_rows ((server_parts c.args.version c.args.random.now c.args.id.now c.args.cipher
-    c.args.compression)) c.args.ext.now = joined server_rows ((server_parts c.args.version c.args.random.now c.args.id.now c.args.cipher
-    c.args.compression)) _ (may) in
-    let bounds : ServerBounds c.args.id.now c.args.ext.now = parts_bounds c.args.version c.args.random.now _ c.args.cipher
-    c.args.compression _ (obey) in
-    let message : Message (head_text 0x02) 4 (join_text server_rows ((server_parts c.args.version c.args.random.now c.args.id.now c.args.cipher
-    c.args.compression)) c.args.ext.now)
-    (join_bytes server_rows ((server_parts c.args.version c.args.random.now c.args.id.now c.args.cipher
-    c.args.compression)) c.args.ext.now)
-    (40 + length c.args.id.now + length c.args.ext.now) = join_message server_rows ((server_parts c.args.version c.args.random.now c.args.id.now c.args.cipher
-    c.args.compression)) c.args.ext.now 0x02 _ (may)
-    (sym (parts_length c.args.version c.args.random.now c.args.id.now c.args.cipher c.args.compression c.args.ext.now
-    (obey))) (omega (arith, bounds)) in
-    let ready : Ready 0x02 server_rows ((server_parts c.args.version c.args.random.now c.args.id.now c.args.cipher
-    c.args.compression)) c.args.ext.now c.args.out.now
-    (40 + length c.args.id.now + length c.args.ext.now) c.in-Got.p = record {
-      may = may;
-      message = message;
-      place = case part_says c.room_for.ensures c.in-Got.is;
-    } in
-    let o = join_in (ready) c.put_fields.ensures c.gen_head.ensures.out_after in
+pub returns : goal.returns
+returns c =
+    let m = may_write _ _ _ c.writable.ensures c.if-not-writable.false c.args.version c.args.cipher c.args.compression in
+    let l = may_length _ _ _ c.writable.ensures c.if-not-writable.false c.args.version c.args.cipher c.args.compression in
+    let o = by_message _ (join_may _ _ _ m) l 0x02 c.gen_message.ensures.answer_value c.gen_message.ensures.len_value
+    c.gen_message.ensures.out_after (λ d d' h r. search rules) in
     record {
       answer_value = o.0;
       len_value = o.1.0;

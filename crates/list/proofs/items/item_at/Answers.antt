@@ -1,37 +1,20 @@
--- `list::items::item_at` meets its contract: after k turns the place asked for is k places nearer
--- in what is left. Assumes nothing.
-use Prim.Native.Nat.{◌-◌}
-use mathlib.Core.Path.{◌≡◌, sym, ap, ◌∙◌}
-use native.Mathlib.Omega.{arith}
-use native.Mathlib.Nat.{sub-zero}
-use Rattle.refusal.specs.Answers.{refused}
-use Rattle.refusal.proofs.Told.{case}
-use Rattle.wire.specs.Parts.{part_says}
+-- `list::items::item_at` meets its contract: the steps lead to the item, or one of them is refused.
+-- Assumes nothing.
+use Rattle.std.proofs.Common.{rules}
+use mathlib.Core.Path.{sym, ◌∙◌}
+use Rattle.refusal.proofs.Told.{hands_on}
 use Rattle.wire.proofs.Numbers.{width_bounds}
-use Rattle.list.proofs.Walk.{next, past_last}
-use Rattle.list.proofs.Fields.{by_steps, item_got, item_none, item_first}
+use Rattle.list.specs.Items.{item_from}
+use Rattle.list.proofs.Fields.{by_steps}
+use Rattle.list.proofs.Stepping.{or_tells, skipped, or_missed}
 use Rattle.list.proofs.items.item_at.Goals as goal
 
-pub loop-k-init : goal.loop-k-init
-loop-k-init c = (omega arith, simp sub-zero)
-
-pub returns-in-Refused : goal.returns-in-Refused
-returns-in-Refused c =
-    let e = item_none _ _ _ (case part_says c.item_from.ensures c.in-Refused.is) in
-    ap refused e.2 ∙ sym (c.loop-k.invariant.1
-    ∙ past_last (by_steps _ (width_bounds c.args.w).0 _) c.loop-k.from _ e.1)
-
-pub loop-k-preserved : goal.loop-k-preserved
-loop-k-preserved c =
-    let e = item_got _ _ _ (case part_says c.item_from.ensures c.in-Got.is) in (
-      omega arith,
-      c.loop-k.invariant.1
-          ∙ next (by_steps _ (width_bounds c.args.w).0 _) c.loop-k.from _ c.loop-k.k
-          (omega arith) e,
-    )
+pub returns-in_err-from : goal.returns-in_err-from
+unfolding item_from
+returns-in_err-from c =
+    hands_on _ c.from_residual.ensures (or_missed (by_steps _ (width_bounds c.args.w).0 _) c.args.at (rw c.in_err-from.was at c.skip.ensures) (λ at r b s. search rules))
 
 pub returns : goal.returns
+unfolding item_from
 returns c =
-    let a = c.args in
-    let z : a.at - c.loop-k.k ≡ 0 = omega arith in
-    c.item_from-2.ensures ∙ sym (c.loop-k.invariant.1 ∙ rw z (item_first _ (width_bounds a.w).0 _ c.loop-k.from))
+    c.item_from.ensures ∙ sym (skipped (by_steps _ (width_bounds c.args.w).0 _) c.args.at (rw c.in_ok-from.was at c.skip.ensures) (or_tells (λ at r b s. search rules)))

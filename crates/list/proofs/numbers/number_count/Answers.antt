@@ -1,14 +1,10 @@
 -- `list::numbers::number_count` meets its contract, by the law of numbers of one width. Assumes
 -- nothing.
 use mathlib.Core.Path.{sym}
-use native.Mathlib.Omega.{arith}
 use Rattle.wire.specs.Numbers.{bytes_in}
 use Rattle.wire.proofs.Numbers.{width_bounds}
 use Rattle.list.proofs.Fixed.{count_of}
 use Rattle.list.proofs.numbers.number_count.Goals as goal
-
-pub nonzero_div-result : goal.nonzero_div-result
-nonzero_div-result c = omega (arith, c.width_bytes.ensures, width_bounds c.args.w)
 
 pub returns : goal.returns
 returns c =

@@ -1,8 +1,8 @@
 -- `norrabist_c::hellos::norrabist_parse_tls_handshake_client_hello_strict` meets its contract: the
--- lengths of what was read, which fit, or the table's number. Assumes nothing.
+-- lengths that were read fit. Assumes nothing.
+use Rattle.refusal.specs.Answers.{as_answer}
 use Rattle.refusal.proofs.Told.{case}
 use Rattle.wire.specs.Numbers.{Bytes}
-use Rattle.read_client.specs.Client.{client_says}
 use Rattle.read_client.proofs.Strict.{strict_demand3}
 use Rattle.norrabist_c.proofs.HelloLengths.{client-fits}
 use Rattle.norrabist_c.proofs.hellos.norrabist_parse_tls_handshake_client_hello_strict.Goals as goal
@@ -10,15 +10,5 @@ use Rattle.norrabist_c.proofs.hellos.norrabist_parse_tls_handshake_client_hello_
 pub client_told-requires : goal.client_told-requires
 client_told-requires c =
     let bytes : Bytes c.args.i.now = λ i. (c.type_inv.i i).fits in
-    let e = case client_says c.parse_tls_handshake_client_hello_strict.ensures.result_value c.in-Got.is in
-    client-fits _ (bytes) _ ((strict_demand3 _ (bytes)).plain_too _ e)
-
-pub returns-in-Refused : goal.returns-in-Refused
-returns-in-Refused c =
-    rw (case client_says c.parse_tls_handshake_client_hello_strict.ensures.result_value c.in-Refused.is)
-    c.client_refused.ensures
-
-pub returns-in-Got : goal.returns-in-Got
-returns-in-Got c =
-    rw (case client_says c.parse_tls_handshake_client_hello_strict.ensures.result_value c.in-Got.is)
-    c.client_told.ensures
+    let e = case as_answer c.parse_tls_handshake_client_hello_strict.ensures.result_value c.in-Ok.is in
+    client-fits _ bytes _ ((strict_demand3 _ bytes).plain_too _ e)

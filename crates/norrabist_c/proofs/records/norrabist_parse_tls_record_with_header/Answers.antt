@@ -1,28 +1,12 @@
--- `norrabist_c::records::norrabist_parse_tls_record_with_header` meets its contract. Assumes
--- nothing.
+-- `norrabist_c::records::norrabist_parse_tls_record_with_header` meets its contract: the length of
+-- the body fits. Assumes nothing.
 use native.Mathlib.Omega.{arith}
+use Rattle.refusal.specs.Answers.{as_answer}
 use Rattle.refusal.proofs.Told.{case}
-use Rattle.envelope.specs.Opening.{head_says}
 use Rattle.norrabist_c.proofs.HeadLengths.{first_len}
 use Rattle.norrabist_c.proofs.records.norrabist_parse_tls_record_with_header.Goals as goal
 
 pub overflow_cast-result : goal.overflow_cast-result
 overflow_cast-result c =
-    omega (
-      arith,
-      first_len _ _ _ (λ i. omega (arith, c.type_inv.content i))
-          (case head_says c.content_head.ensures c.in-Got.is),
-    )
-
-pub returns-in-Refused : goal.returns-in-Refused
-returns-in-Refused c =
-    rw (
-      case head_says c.content_head.ensures
-          c.in-Refused.is,
-      c.refusal_number.ensures,
-    )
-
-pub returns-in-Got : goal.returns-in-Got
-returns-in-Got c =
-    rw (case head_says c.content_head.ensures
-    c.in-Got.is)
+    let e = case as_answer c.content_head.ensures c.in-Ok.is in
+    omega (arith, first_len _ _ _ (λ i. (c.type_inv.content i).fits) e)

@@ -1,27 +1,21 @@
--- `read_ext::names::name_at` meets its contract: after k turns the place asked for is k places
--- nearer in what is left. Assumes nothing.
-use mathlib.Core.Path.{sym, ap, ◌∙◌}
-use Rattle.refusal.specs.Answers.{refused}
-use Rattle.refusal.proofs.Told.{case}
-use Rattle.list.specs.Tagged.{any_data, tagged_says}
-use Rattle.read_ext.proofs.Turns.{far, nearer, nowhere, there, name_got, name_none, name_is}
+-- `read_ext::names::name_at` meets its contract: the steps lead to the name, or one of them is
+-- refused. Assumes nothing.
+use Rattle.std.proofs.Common.{rules}
+use mathlib.Core.Path.{sym, ◌∙◌}
+use Rattle.refusal.proofs.Told.{hands_on}
+use Rattle.list.specs.Tagged.{any_data}
+use Rattle.list.proofs.Stepping.{or_tells, skipped, or_missed}
+use Rattle.read_ext.proofs.Turns.{turn, name_step, name_is}
 use Rattle.read_ext.proofs.names.name_at.Goals as goal
 
-pub loop-k-init : goal.loop-k-init
-loop-k-init c = far 1 any_data c.args.list.now _
-
-pub returns-in-Refused : goal.returns-in-Refused
-returns-in-Refused c =
-    let y = case tagged_says c.name_from.ensures.result_value c.in-Refused.is in
-    let e = name_none _ _ y in
-    ap refused e.1 ∙ sym (nowhere 1 any_data _ _ _ _ c.loop-k.invariant e.0.1)
-
-pub loop-k-preserved : goal.loop-k-preserved
-loop-k-preserved c =
-    let y = case tagged_says c.name_from.ensures.result_value c.in-Got.is in
-    let e = name_got _ _ y in
-    nearer 1 any_data _ _ _ _ c.loop-k.invariant c.loop-k-test.true e
+pub returns-in_err-from : goal.returns-in_err-from
+returns-in_err-from c =
+    hands_on _ c.from_residual.ensures
+    (or_missed (turn 1 any_data _) c.args.n (rw c.in_err-from.was at c.skip.ensures)
+    (λ at r b s. name_step c.args.list.now at (search rules)))
 
 pub returns : goal.returns
 returns c =
-    c.name_from-2.ensures.result_value ∙ name_is _ _ ∙ sym (there 1 any_data _ _ _ _ c.loop-k.invariant c.loop-k-test.false)
+    let t = skipped (turn 1 any_data c.args.list.now) c.args.n (rw c.in_ok-from.was at c.skip.ensures)
+    (or_tells (λ at r b s. name_step c.args.list.now at (search rules))) in
+    c.name_from.ensures.result_value ∙ name_is _ _ ∙ sym t

@@ -2,8 +2,7 @@
 -- Assumes nothing.
 use mathlib.Core.Path.{ap, sym, ◌∙◌}
 use Rattle.refusal.specs.Answers.{refused}
-use Rattle.refusal.proofs.Told.{case}
-use Rattle.wire.specs.Parts.{part_says}
+use Rattle.refusal.proofs.Told.{hands_on}
 use Rattle.wire.proofs.Parts.{room_fits}
 use Rattle.wire.proofs.Puts.{number_over, number_out, number_put}
 use Rattle.wire.proofs.number.gen_be.Goals as goal
@@ -18,22 +17,21 @@ returns-then-limit-n c =
 
 pub put_number-requires : goal.put_number-requires
 put_number-requires c =
-    (room_fits _ _ _ (case part_says c.room_for.ensures
-    c.in-Got.is)).inside
+    (room_fits _ _ _ (sym c.in_ok-p.ensures)).inside
 
-pub returns-in-Refused : goal.returns-in-Refused
-returns-in-Refused c =
-    let e = case part_says c.room_for.ensures c.in-Refused.is in
+pub returns-in_err-p : goal.returns-in_err-p
+returns-in_err-p c =
+    let e = sym c.in_err-p.ensures in
     let o = number_out _ _ _ _ (rw c.limit.ensures at c.if-limit-n.false)
     (rw c.width_bytes-count.ensures at e) in
     record {
-      result_value = sym o.says;
+      result_value = hands_on _ c.from_residual.ensures (sym o.says);
       out_after = sym o.leaves;
     }
 
-pub returns-in-Got : goal.returns-in-Got
-returns-in-Got c =
-    let e = case part_says c.room_for.ensures c.in-Got.is in
+pub returns : goal.returns
+returns c =
+    let e = sym c.in_ok-p.ensures in
     let o = number_put _ _ _ _ (rw c.limit.ensures at c.if-limit-n.false)
     (rw c.width_bytes-count.ensures at e) in
     record {

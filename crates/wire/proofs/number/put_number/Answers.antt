@@ -2,21 +2,16 @@
 -- is, is the whole number put into the buffer as lent. Assumes nothing.
 use mathlib.Core.Path.{◌≡◌, sym, ◌∙◌}
 use native.Mathlib.Omega.{arith}
-use lib.ListN.{length-set}
 use Rattle.wire.specs.Numbers.{bytes_of}
 use Rattle.wire.proofs.Puts.{put_nil, number_next}
 use Rattle.wire.proofs.number.put_number.Goals as goal
 
-pub loop-left-preserved : goal.loop-left-preserved
-loop-left-preserved c = (
-  omega arith,
-  number_next _ _ c.loop-left.left c.loop-left.m (omega arith) (omega arith)
-      ∙ c.loop-left.invariant.1,
-  rw length-set c.loop-left.invariant.2,
-)
+pub loop-k-preserved : goal.loop-k-preserved
+loop-k-preserved c =
+    number_next _ _ c.loop-k.k c.loop-k.m c.loop-k-test.true (omega arith) ∙ c.loop-k.invariant
 
 pub returns : goal.returns
 unfolding bytes_of
 returns c =
-    let e : c.loop-left.left ≡ 0 = omega arith in
-    sym (put_nil _ _) ∙ (rw e at c.loop-left.invariant.1)
+    let e : c.loop-k.k ≡ 0 = omega arith in
+    sym (put_nil _ _) ∙ (rw e at c.loop-k.invariant)
