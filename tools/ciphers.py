@@ -23,27 +23,32 @@ HEAD = """\
 // The names of cipher suites by their numbers, in pages; made by ./papers --write from
 // rust/src/ciphers/rows.rs.
 // stays: pages of 32 at most, since a match of all takes the prover minutes.
+use std::fmt;
 """
 # what each function is handed, and what it hands back
-PARAMETERS = "n: u16) -> Option<&'static str>"
+PARAMETERS = "<W: fmt::Write>(f: &mut fmt::Formatter<W>, n: u16) -> fmt::Result"
 
 
-def match(arms):
-    """The body that picks one of these arms, or none."""
-    return f"{{\n    match n {{\n{''.join(f'        {arm},{chr(10)}' for arm in [*arms, '_ => None'])}    }}\n}}\n"
+def match(arms, other):
+    """The match that picks one of these arms, or the other."""
+    return f"match n {{\n{''.join(f'        {arm},{chr(10)}' for arm in [*arms, f'_ => {other}'])}    }}"
 
 
 def page(place, rows):
     """The function of a page."""
-    return f"fn page_{place}({PARAMETERS} {match(f'0x{number} => Some({chr(34)}{name}{chr(34)})' for number, name in rows)}"
+    names = match((f'0x{number} => " {name}"' for number, name in rows), '""')
+    return f"fn say_page_{place}{PARAMETERS} {{\n    f.write_str({names})\n}}\n"
 
 
 def text(rows):
     """A file of these rows."""
     found = [rows[first : first + MOST] for first in range(0, len(rows), MOST)]
-    arms = [f"0x{rows[0][0]}..=0x{rows[-1][0]} => page_{place}(n)" for place, rows in enumerate(found)]
+    arms = [f"0x{rows[0][0]}..=0x{rows[-1][0]} => say_page_{place}(f, n)" for place, rows in enumerate(found)]
     functions = [page(place, rows) for place, rows in enumerate(found)]
-    last = f"// The name of the cipher suite `n`.\npub(crate) fn name({PARAMETERS} {match(arms)}"
+    last = (
+        "// Prints the name of the cipher suite `n`, behind a blank; nothing where there is none.\n"
+        f"pub(crate) fn say_name{PARAMETERS} {{\n    {match(arms, 'Ok(())')}\n}}\n"
+    )
     return "\n".join([HEAD, *functions, last])
 
 

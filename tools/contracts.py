@@ -7,33 +7,27 @@ a public function, where an edit's first line does not tell what the edit is of 
 not stand once in its file, or where the made part is not what it would write. ./papers does the same, with the other papers.
 """
 
-import re
 import sys
 
 sys.dont_write_bytecode = True
 import made
 import source
 
-# What is asked of a closure: that it may be called, or what its calls answer.
-OF_STEP = re.compile(r"\b[A-Z]\w*\.(?:IsAlwaysCallable|pre|post|Fn|FnMut|FnOnce)\b")
-
 
 def code(text):
     return "`" + text.replace("|", "\\|") + "`"
 
 
-
 def promised(root, crate):
     """The functions that promise nothing and must: every public one, and of a program each one
-    with a result or a lent `&mut`. And those of a library that ask something of their caller, but
-    for what a closure that is handed over has to meet."""
+    with a result or a lent `&mut`. And those of a library that ask something of their caller."""
     program = not source.is_library(root, crate)
     for function in source.functions(root, crate):
         where = f"{function.file}:{function.line}: {function.title}"
         hands_out = program and function.name != "main" and (function.result or function.lent)
         if (function.public or hands_out) and not source.facts(function):
             yield f"{where} has no `ensures`"
-        if function.public and not program and not all(map(OF_STEP.search, function.requires)):
+        if function.public and function.requires and not program:
             yield f"{where} is public and has a `requires`"
 
 

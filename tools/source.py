@@ -92,9 +92,7 @@ HEAD = re.compile(
 )
 TYPE = re.compile(r"^impl(?:<[^>]*>)?[ \t]+(?:[\w:]+(?:<[^>]*>)?[ \t]+for[ \t]+)?(\w+)", re.M)
 RESULT = re.compile(r"\s*->[^{;]*?(?=\s+(?:requires|ensures)\b|\s*[{;])")
-PRINTS = re.compile(
-    r"->\s*(?:io::Result<\(\)>|fmt::Result|&'static str|Option<&'static str>)\s*$"
-)
+PRINTS = re.compile(r"->\s*(?:io::Result<\(\)>|fmt::Result)\s*$")
 CLAUSE = re.compile(r"\s*(requires|ensures)\*?(?:\s+\w+)?\s*\{")
 # comments, texts and characters in quotes, which may hold brackets of their own
 QUIET = re.compile(r"""//[^\n]*|(?P<kept>extern "C")|"(?:\\.|[^"\\])*"|'(?:\\.|[^'\\])'""")
@@ -124,7 +122,7 @@ def functions_of(crate, file, text):
         visible = "".join((head.group(1) or "").split())
         line = text.count("\n", 0, head.start(2)) + 1
         span = (head.end() - len(head.group().lstrip()), closing(text, text.index("{", at)))
-        # nor is it that printing failed, nor a name to be printed
+        # nor is it that printing failed, to a writer or in a `fmt`
         name, has = head.group(2), result is not None and not PRINTS.search(result.group())
         found.append(Function(crate, file, line, span, kind, name, visible, lent, has, said))
     return found

@@ -26,6 +26,11 @@ def words_of(text):
     return WORD.findall(FIELD.sub(" ", text))
 
 
+def named(taken):
+    """The name under which a page has a word that a line of `use` takes."""
+    return taken.strip().rpartition(".")[2].rpartition(" as ")[2]
+
+
 class File:
     """A file of definitions: its lines, what its heading says, its definitions by name, and where
     the words that it takes stand."""
@@ -55,7 +60,7 @@ class File:
         """Where a word stands that it takes: the file, or the folder of a crate whose Lib passes it
         on."""
         file = FILE.match(path)
-        for name in (name.strip().rpartition(".")[2] for name in names.split(",")):
+        for name in map(named, names.split(",")):
             where = f"{file.group(2)}.antt" if file and file.group(2) else ""
             self.taken[name] = f"{file.group(1)}/specs/{where}" if file else None
             if handed:
@@ -78,7 +83,7 @@ def files(root):
 def passed_on(lib):
     """The words that a Lib passes on."""
     uses = [use for line in lib.splitlines() if (use := TAKEN.match(line))]
-    return [name.strip().rpartition(".")[2] for use in uses for name in use.group(3).split(",")]
+    return [named(name) for use in uses for name in use.group(3).split(",")]
 
 
 def standing(known, file, word):

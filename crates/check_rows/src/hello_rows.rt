@@ -75,12 +75,12 @@ fn client(to: &mut impl Write, row: &str, text: &str, s: &[u8]) -> io::Result<()
     }
 }
 
-fn exactness_name(e: Result<(), Inexact>) -> &'static str {
+fn say_exactness(to: &mut impl Write, e: Result<(), Inexact>) -> io::Result<()> {
     match e {
-        Ok(()) => "exact",
-        Err(Inexact::NoCiphers) => "no ciphers",
-        Err(Inexact::NoMethods) => "no methods",
-        Err(Inexact::HasTail) => "a tail",
+        Ok(()) => writeln!(to, "exact"),
+        Err(Inexact::NoCiphers) => writeln!(to, "no ciphers"),
+        Err(Inexact::NoMethods) => writeln!(to, "no methods"),
+        Err(Inexact::HasTail) => writeln!(to, "a tail"),
     }
 }
 
@@ -100,7 +100,7 @@ fn strict(to: &mut impl Write, row: &str, text: &str, s: &[u8]) -> io::Result<()
     say::row(to, row, "exactness of ClientHello", text)?;
     match norrabist::parse_tls_handshake_client_hello(s) {
         Err(r) => say::refused(to, r),
-        Ok(c) => writeln!(to, "{}", exactness_name(c.exactness(s))),
+        Ok(c) => say_exactness(to, c.exactness(s)),
     }
 }
 

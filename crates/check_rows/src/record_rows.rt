@@ -3,11 +3,11 @@ use crate::say::{self, Bytes};
 use norrabist::{Refusal, TlsMessage, TlsMessageHandshake, TlsPlaintext, TlsRecordWalk};
 use std::io::{self, Write};
 
-fn kind_name(m: TlsMessageHandshake) -> &'static str {
+fn say_kind(to: &mut impl Write, m: TlsMessageHandshake) -> io::Result<()> {
     match m {
-        TlsMessageHandshake::HelloRequest => "HelloRequest",
-        TlsMessageHandshake::KeyUpdate(_) => "KeyUpdate",
-        _ => "another kind",
+        TlsMessageHandshake::HelloRequest => write!(to, "HelloRequest"),
+        TlsMessageHandshake::KeyUpdate(_) => write!(to, "KeyUpdate"),
+        _ => write!(to, "another kind"),
     }
 }
 
@@ -15,7 +15,11 @@ fn message(to: &mut impl Write, row: &str, text: &str, s: &[u8]) -> io::Result<(
     say::row(to, row, "message", text)?;
     match norrabist::parse_tls_message_handshake(s) {
         Err(r) => say::refused(to, r),
-        Ok(m) => writeln!(to, "accepted, {}", kind_name(m)),
+        Ok(m) => {
+            write!(to, "accepted, ")?;
+            say_kind(to, m)?;
+            writeln!(to)
+        }
     }
 }
 
@@ -23,7 +27,10 @@ fn message(to: &mut impl Write, row: &str, text: &str, s: &[u8]) -> io::Result<(
 fn say_next(to: &mut impl Write, a: Result<TlsMessage, Refusal>) -> io::Result<()> {
     match a {
         Err(r) => write!(to, ", refused {}", norrabist::refusal_number(r)),
-        Ok(TlsMessage::Handshake(h)) => write!(to, ", {}", kind_name(h)),
+        Ok(TlsMessage::Handshake(h)) => {
+            write!(to, ", ")?;
+            say_kind(to, h)
+        }
         Ok(TlsMessage::ChangeCipherSpec) => write!(to, ", ChangeCipherSpec"),
         Ok(TlsMessage::Alert(a)) => write!(to, ", alert {} {}", a.severity, a.code),
         Ok(TlsMessage::ApplicationData(d)) => write!(to, ", data of {}", d.blob.len),

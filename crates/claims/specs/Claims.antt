@@ -52,7 +52,7 @@ OfBytes P = (s : List ℕ) → Bytes s → P s
 pub record Claims : Type 0 where
   -- the table of refusals: no two share a number, and none has 0
   pub table : NumbersApart
-  -- equal numbers and equal values are one result: every answer that is an enum
+  -- equal numbers and equal values are one result: of each value that an answer of the code holds
   pub one_part : OneResult (as_answer {A = Part})
   pub one_number_of : OneResult (as_answer {A = Number})
   pub one_write : OneResult (as_answer {A = ℕ})

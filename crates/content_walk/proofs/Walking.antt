@@ -97,7 +97,7 @@ moved_on : (s : List ℕ) (w : TlsRecordWalk) {x : TlsFound} → met_by s w ≡ 
 unfolding moved
 moved_on s w e = rw e
 
-moved_not : (s : List ℕ) (w : TlsRecordWalk) {r : Refusal} → met_by s w ≡ refused r → moved s w ≡ w
+pub moved_not : (s : List ℕ) (w : TlsRecordWalk) {r : Refusal} → met_by s w ≡ refused r → moved s w ≡ w
 unfolding moved
 moved_not s w e = rw e
 

@@ -1,8 +1,9 @@
 // The messages of a record's content, by the type of the record: the one at a place, the walk over
 // them, and how many there are.
-#![tactic(auto, using(envelope::proofs::Heads::met_no_head, envelope::proofs::Heads::met_no_body, envelope::proofs::Heads::met_got, crate::proofs::Found::alert_is), unfolding(content::specs::Contents::application_data, list::specs::Stopping::end_of, record_walk::specs::Walks::met_head, crate::specs::ContentWalks::alert_found, crate::specs::ContentWalks::application_found, crate::specs::ContentWalks::cipher_spec_found, crate::specs::ContentWalks::found_at, crate::specs::ContentWalks::handshake_found, crate::specs::ContentWalks::heartbeat_found, crate::specs::ContentWalks::moved, crate::specs::ContentWalks::next_message, crate::specs::ContentWalks::past_at))]
+#![tactic(auto, using(envelope::proofs::Heads::met_no_head, envelope::proofs::Heads::met_no_body, envelope::proofs::Heads::met_got, crate::proofs::Found::alert_is, crate::proofs::Found::cipher_spec_is), unfolding(content::specs::Contents::application_data, list::specs::Stopping::end_of, record_walk::specs::Walks::met_head, crate::specs::ContentWalks::alert_found, crate::specs::ContentWalks::application_found, crate::specs::ContentWalks::cipher_spec_found, crate::specs::ContentWalks::found_at, crate::specs::ContentWalks::handshake_found, crate::specs::ContentWalks::heartbeat_found, crate::specs::ContentWalks::moved, crate::specs::ContentWalks::next_message, crate::specs::ContentWalks::past_at))]
 
 ghost use Rattle.std.specs.Prelude.{◌≡◌, length};
+ghost use Rattle.list.specs.Stepping.{MovesOn};
 ghost use Rattle.list.specs.Stopping.{end_of};
 ghost use Rattle.refusal.specs.Answers.{as_answer};
 ghost use Rattle.refusal.specs.Refusals.{refusal};
@@ -11,6 +12,7 @@ ghost use Rattle.content_walk.specs.ContentWalks.{alert_found, application_found
 
 use content::TlsMessage;
 pub use list::steps::Counted;
+use list::steps::Step;
 use refusal::{Reason, Refusal};
 use wire::view::View;
 
@@ -180,7 +182,10 @@ pub fn past_message(record_type: u8, s: &[u8], at: usize) -> Result<usize, Refus
 {
     // stays: `message_at` makes each message, which a walk that asks for ends is spared.
     match record_type {
-        registry::record::CHANGE_CIPHER_SPEC => Ok(content::change_cipher_spec_at(s, at)?.next),
+        registry::record::CHANGE_CIPHER_SPEC => {
+            content::change_cipher_spec_at(s, at)?;
+            Ok(at + 1)
+        }
         registry::record::ALERT => {
             content::alert_at(s, at)?;
             Ok(at + 2)
@@ -195,6 +200,25 @@ pub fn past_message(record_type: u8, s: &[u8], at: usize) -> Result<usize, Refus
     }
 }
 
+// The walk over messages of a type that repeats, one each step.
+#[derive(Clone, Copy)]
+struct Messages<'a> {
+    record_type: u8,
+    s: &'a [u8],
+    ghost onward: { MovesOn (past_at record_type s.now) },
+}
+
+impl Step for Messages<'_> {
+    ghost answered = { λ x. past_at x.record_type x.s.now };
+
+    #[inline(always)]
+    fn past(&self, at: usize) -> Result<usize, Refusal> {
+        past_message(self.record_type, self.s, at)
+    }
+
+    ghost moves_on = { λ x. x.onward };
+}
+
 // Counts the messages behind another that ends at `from`, up to the first that is refused: none
 // where the content is one message.
 pub fn count_behind(record_type: u8, s: &[u8], from: usize) -> Counted
@@ -207,7 +231,7 @@ pub fn count_behind(record_type: u8, s: &[u8], from: usize) -> Counted
             end: from,
         };
     }
-    list::steps::count(|at| past_message(record_type, s, at), from)
+    list::steps::count(&Messages { record_type, s }, from)
 }
 
 // Counts the messages of a record's content by the record's type.

@@ -1,10 +1,10 @@
 -- The walk over the items of a field: a step finds an item of at least a byte. Assumes nothing.
 use Prim.Native.Nat.{ℕ, suc, ◌≤◌}
-use mathlib.Core.Path.{◌≡◌}
+use mathlib.Core.Path.{◌≡◌, refl}
 use mathlib.Core.List.{List}
 use native.Mathlib.Omega.{arith}
 use lib.ListN.{length}
-use Rattle.refusal.specs.Answers.{accepted, refused}
+use Rattle.refusal.specs.Answers.{accepted, refused, giving}
 use Rattle.refusal.specs.Refusals.{refusal}
 use Rattle.refusal.specs.declared.Reason.TheVariants.{NoSuch}
 use Rattle.refusal.specs.declared.Refusal.{Refusal}
@@ -12,7 +12,9 @@ use Rattle.wire.specs.declared.view.Part.{Part}
 use Rattle.field.specs.Fields.{Field, step}
 use Rattle.field.specs.Standing.{least}
 use Rattle.field.proofs.Rules.{step_in}
-use Rattle.list.specs.Items.{items, item_from, place, NoneMore}
+use Rattle.list.specs.Items.{items, item_from, past_item, place, or_no_such, NoneMore}
+use Rattle.list.specs.Stepping.{MovesOn}
+use Rattle.list.proofs.Stepping.{onward, or_tells}
 use Rattle.list.proofs.Walk.{Moves, rest, rest_all, fuel, got, none, first, go_on}
 
 abbrev pub left : Field → List ℕ → ℕ → List Part
@@ -30,6 +32,16 @@ pub item_none : (f : Field) (s : List ℕ) (at : ℕ) {r : Refusal} → item_fro
     × (step f s at ≡ refused x) × (r ≡ refusal NoSuch 0 0)
 unfolding item_from
 item_none f s at e = none (step f s at) e
+
+-- a step over the items answers where the item ends
+pub item_says : (f : Field) (s : List ℕ) (at : ℕ)
+    → past_item f s at ≡ giving (λ (p : Part). p.next) (or_no_such (step f s at))
+unfolding item_from
+item_says f s at = refl
+
+-- each item ends behind where it begins
+pub item_onward : (f : Field) → 1 ≤ least f → (s : List ℕ) → MovesOn (past_item f s)
+item_onward f one s at next b e = onward (by_steps f one s) (or_tells (item_says f s)) e
 
 -- all items are what is left at the front
 pub all_left : (f : Field) (s : List ℕ) → items f s ≡ left f s 0

@@ -31,6 +31,10 @@ or_no_such a = or_else a (refused (refusal NoSuch 0 0))
 unfoldable pub item_from : Field → List ℕ → ℕ → Answer Part
 item_from f s at = or_no_such (step f s at)
 
+-- and where it ends
+abbrev pub past_item : Field → List ℕ → ℕ → Answer ℕ
+past_item f s at = giving (λ p. p.next) (item_from f s at)
+
 -- all of them, for a field that takes a byte at least
 abbrev pub items : Field → List ℕ → List Part
 items f s = items_from (length s) (step f s) (λ p. p.next) 0

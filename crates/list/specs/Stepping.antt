@@ -1,24 +1,24 @@
--- A walk by steps. `step at r` says that the step, asked at a byte, may answer r: the place past
--- what begins there, or why nothing does.
-use Rattle.std.specs.Prelude.{◌^◌, ◌<◌, ◌≡◌, Result, Ok, Err}
-use Rattle.refusal.specs.{ℕ, zero, suc, Refusal}
+-- A walk by steps. A step is asked at a byte, and answers the place past what begins there, or why
+-- nothing does; the next one is asked there, until one is refused.
+use Rattle.std.specs.Prelude.{◌^◌, ◌<◌, ◌≡◌}
+use Rattle.refusal.specs.{ℕ, zero, suc, List, Answer, accepted, then}
+use Rattle.list.specs.Items.{items_from}
+use Rattle.list.specs.Stopping.{end_of}
 
 -- each step moves on
-abbrev pub MovesOn : (ℕ → Result ℕ Refusal → Type 0) → Type 0
-MovesOn step = (at next : ℕ) → at < 2 ^ 64 → step at (Ok next) → at < next
+abbrev pub MovesOn : (ℕ → Answer ℕ) → Type 0
+MovesOn step = (at next : ℕ) → at < 2 ^ 64 → step at ≡ accepted next → at < next
 
--- so many steps lead from a byte to another
-unfoldable pub Leads : (ℕ → Result ℕ Refusal → Type 0) → ℕ → ℕ → ℕ → Type 0
-Leads step zero from to = from ≡ to
-Leads step (suc k) from to = (next : ℕ) × (from < 2 ^ 64) × step from (Ok next) × Leads step k next to
+-- the places that the steps of a walk lead to, the first step asked at a byte. The bound of the
+-- recursion never ends a walk whose steps move on, since places are below it
+abbrev pub places_from : (ℕ → Answer ℕ) → ℕ → List ℕ
+places_from step from = items_from (2 ^ 64) step (λ next. next) from
 
--- and there the next one is refused
-pub record Halts (step : ℕ → Result ℕ Refusal → Type 0) (from count end : ℕ) (stop : Refusal) : Type 0 where
-  pub below : end < 2 ^ 64
-  pub leads : Leads step count from end
-  pub halts : step end (Err stop)
+-- and where it stops
+abbrev pub stop_from : (ℕ → Answer ℕ) → ℕ → ℕ
+stop_from step from = end_of (λ next. next) (places_from step from) from
 
--- where n steps from the front lead, or why one before the last was refused
-abbrev pub Skips : (ℕ → Result ℕ Refusal → Type 0) → ℕ → Result ℕ Refusal → Type 0
-Skips step n (Ok to) = (to < 2 ^ 64) × Leads step n 0 to
-Skips step n (Err stop) = (k end : ℕ) × (k < n) × Halts step 0 k end stop
+-- where so many steps lead from a byte, or why one of them is refused
+unfoldable pub led_by : ℕ → (ℕ → Answer ℕ) → ℕ → Answer ℕ
+led_by zero step from = accepted from
+led_by (suc n) step from = then (step from) (λ next. led_by n step next)

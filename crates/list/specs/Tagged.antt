@@ -2,9 +2,8 @@
 -- data behind a length of two bytes. RULES 11.2; RFC 5246 7.4.1.4, RFC 6066 3. Which data a tag may
 -- have is an argument, so that what is shown here of the items, and of the bytes that they fill or
 -- fail to fill, is shown of all kinds at once.
-use Rattle.refusal.specs.declared.Refusal.{Refusal}
-use Rattle.std.specs.Prelude.{◌+◌, ◌^◌, ◌<◌, ◌≤◌, ◌≡◌, ◌⊎◌, ◌∷◌, ◌++◌, Result, IfOk}
-use Rattle.refusal.specs.{ℕ, List, [], map, Bool, true, false, length, eqb, refusal, Answer, accepted, refused, then, LengthValue, giving}
+use Rattle.std.specs.Prelude.{◌+◌, ◌^◌, ◌<◌, ◌≤◌, ◌≡◌, ◌⊎◌, ◌∷◌, ◌++◌}
+use Rattle.refusal.specs.{ℕ, List, [], map, Bool, true, false, length, eqb, refusal, Answer, accepted, refused, then, LengthValue, giving, Refusal, Result, IfOk}
 use Rattle.wire.specs.{pick, part_of, bytes_of, number_at, Bytes}
 use Rattle.field.specs.{sized, step, field_bytes}
 use Rattle.list.specs.Items.{items_from}

@@ -3,18 +3,19 @@
 use content::TlsMessageAlert;
 use std::fmt;
 
-// The level of an alert (RFC 5246 7.2), which is 1 or 2.
-fn level_name(level: u8) -> &'static str {
-    match level {
+// Prints the level of an alert (RFC 5246 7.2), which is 1 or 2.
+fn say_level<W: fmt::Write>(f: &mut fmt::Formatter<W>, level: u8) -> fmt::Result {
+    f.write_str(match level {
         1 => "warning",
         2 => "fatal",
         _ => "not known",
-    }
+    })
 }
 
-// Descriptions of RFC 5246 7.2, RFC 7507 2, RFC 6066 9, RFC 8446 6.2 and RFC 7301 3.2.
-fn description_name(description: u8) -> &'static str {
-    match description {
+// Prints the description of an alert: those of RFC 5246 7.2, RFC 7507 2, RFC 6066 9, RFC 8446 6.2
+// and RFC 7301 3.2.
+fn say_description<W: fmt::Write>(f: &mut fmt::Formatter<W>, description: u8) -> fmt::Result {
+    f.write_str(match description {
         0 => "close_notify",
         10 => "unexpected_message",
         20 => "bad_record_mac",
@@ -50,7 +51,7 @@ fn description_name(description: u8) -> &'static str {
         116 => "certificate_required",
         120 => "no_application_protocol",
         _ => "not known",
-    }
+    })
 }
 
 // An alert: the names of its level and its description, each with its number.
@@ -60,7 +61,10 @@ pub(crate) struct Alert(pub(crate) TlsMessageAlert);
 impl fmt::Display for Alert {
     fn fmt<W: fmt::Write>(&self, f: &mut fmt::Formatter<W>) -> fmt::Result {
         let (level, description) = (self.0.severity, self.0.code);
-        write!(f, "Alert, {} ({level})", level_name(level))?;
-        write!(f, ", {} ({description})", description_name(description))
+        f.write_str("Alert, ")?;
+        say_level(f, level)?;
+        write!(f, " ({level}), ")?;
+        say_description(f, description)?;
+        write!(f, " ({description})")
     }
 }

@@ -10,18 +10,10 @@ impl fmt::Display for Cipher {
     fn fmt<W: fmt::Write>(&self, f: &mut fmt::Formatter<W>) -> fmt::Result {
         let n = self.0;
         write!(f, "{n:04x}")?;
-        if let Some(name) = cipher_name(n) {
-            write!(f, " {name}")?;
+        if n < 0xc000 {
+            pages_00::say_name(f, n)
+        } else {
+            pages_c0::say_name(f, n)
         }
-        Ok(())
-    }
-}
-
-// The name of the cipher suite `n`.
-fn cipher_name(n: u16) -> Option<&'static str> {
-    if n < 0xc000 {
-        pages_00::name(n)
-    } else {
-        pages_c0::name(n)
     }
 }

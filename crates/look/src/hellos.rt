@@ -32,7 +32,7 @@ fn session_id(to: &mut impl Write, id: Option<View>, body: Placed<'_>) -> io::Re
 
 fn ciphers(to: &mut impl Write, l: Placed<'_>) -> io::Result<()> {
     let all = number_count(l.bytes, Width::Two);
-    writeln!(to, "    ciphers {l}, {}", Count(all, "cipher"))?;
+    writeln!(to, "    ciphers {l}, {}", Count(all, " cipher"))?;
     lists::ciphers(to, l.bytes)
 }
 

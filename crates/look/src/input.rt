@@ -77,11 +77,12 @@ impl Window {
         }
         next[..kept].copy_from_slice(rest);
         let more = read_full(from, &mut next[kept..])?;
-        *self = Window {
-            bytes: next,
-            have: kept.wrapping_add(more),
-            at: 0,
-        };
-        Ok(more != 0)
+        if more == 0 {
+            return Ok(false);
+        }
+        self.bytes = next;
+        self.have = kept.wrapping_add(more);
+        self.at = 0;
+        Ok(true)
     }
 }

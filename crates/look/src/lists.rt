@@ -1,20 +1,26 @@
 // The lists of a message, item by item.
-ghost use Rattle.std.specs.Prelude.{◌<◌};
-
 use crate::ciphers::Cipher;
 use crate::names::Compression;
-use crate::say::{Count, Hex, Placed};
+use crate::say::{Count, Placed};
 use list::items::{item_count, item_from};
 use std::io::{self, Write};
 use wire::number::Width;
 
-// Numbers of `width` bytes each, in hex, one after the other, to the end of the line.
-pub(crate) fn numbers(to: &mut impl Write, l: &[u8], width: usize) -> io::Result<()>
-    requires { 0 < width }
-{
+// Numbers of one byte, in hex, one after the other, to the end of the line.
+pub(crate) fn bytes(to: &mut impl Write, l: &[u8]) -> io::Result<()> {
     write!(to, ":")?;
-    for n in l.chunks_exact(width) {
-        write!(to, " {}", Hex(n))?;
+    for n in l {
+        write!(to, " {n:02x}")?;
+    }
+    writeln!(to)
+}
+
+// Numbers of two bytes, in hex, one after the other, to the end of the line: each is printed at
+// once, since the output is written piece by piece.
+pub(crate) fn pairs(to: &mut impl Write, l: &[u8]) -> io::Result<()> {
+    write!(to, ":")?;
+    for n in l.chunks_exact(2) {
+        write!(to, " {:04x}", u16::from_be_bytes([n[0], n[1]]))?;
     }
     writeln!(to)
 }
@@ -38,7 +44,7 @@ pub(crate) fn methods(to: &mut impl Write, l: &[u8]) -> io::Result<()> {
 
 // Items behind a length each, of which the width is given: how many they are, behind the list's
 // name and place, a line each with what one of them is, and what is left behind them that is no
-// whole item.
+// whole item. What one of them is has a blank before it.
 pub(crate) fn items(
     to: &mut impl Write,
     name: &'static str,
@@ -52,7 +58,9 @@ pub(crate) fn items(
     // stays: no plainer: a walk by `item_from` needs a bound of its own, and the count is one
     for _ in 0..all {
         if let Ok(p) = item_from(l.bytes, end, w) {
-            writeln!(to, "      {one} {}", l.part(p.view))?;
+            let item = l.part(p.view);
+            let bytes = Count(item.len(), " byte");
+            writeln!(to, "     {one} at {}, {bytes}", item.from)?;
             end = p.next;
         }
     }

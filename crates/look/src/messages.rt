@@ -9,7 +9,7 @@ use wire::view::rest_of;
 
 // A message that announces more bytes than `here`, by `lack`.
 fn goes_on(to: &mut impl Write, announced: usize, here: usize, lack: usize) -> io::Result<()> {
-    write!(to, "  the message announces {}", Count(announced, "byte"))?;
+    write!(to, "  the message announces {}", Count(announced, " byte"))?;
     if lack > owed::BELIEVED {
         writeln!(to, ", which is not believed: the record may be encrypted")
     } else {
@@ -27,7 +27,7 @@ fn ends_early(to: &mut impl Write, r: Refusal, announced: usize) -> io::Result<(
         writeln!(
             to,
             "  its body of {} ends before its fields do",
-            Count(announced, "byte")
+            Count(announced, " byte")
         )?;
     }
     Ok(())

@@ -38,7 +38,7 @@ pub(crate) fn certificate(
 ) -> io::Result<()> {
     kind(to, "Certificate", body)?;
     let chain = body.part(c.cert_chain);
-    lists::items(to, "certificates", "certificate", chain, Width::Three)
+    lists::items(to, "certificates", " certificate", chain, Width::Three)
 }
 
 // The signature algorithms, and an odd byte behind them.
@@ -48,7 +48,7 @@ fn pairs(to: &mut impl Write, sigs: Option<View>, body: Placed<'_>) -> io::Resul
     };
     let l = body.part(v);
     write!(to, "    signature algorithms {l}")?;
-    lists::numbers(to, l.bytes, 2)?;
+    lists::pairs(to, l.bytes)?;
     if l.len() % 2 == 1 {
         writeln!(to, "      the odd byte behind them is dropped")?;
     }
@@ -63,9 +63,9 @@ pub(crate) fn request(
     let types = body.part(c.cert_types);
     kind(to, "CertificateRequest", body)?;
     write!(to, "    certificate types {types}")?;
-    lists::numbers(to, types.bytes, 1)?;
+    lists::bytes(to, types.bytes)?;
     pairs(to, c.sig_hash_algs, body)?;
-    lists::items(to, "names", "name", body.part(c.unparsed_ca), Width::Two)
+    lists::items(to, "names", " name", body.part(c.unparsed_ca), Width::Two)
 }
 
 pub(crate) fn status(

@@ -24,7 +24,7 @@ impl fmt::Display for Header {
             RecordType(h.record_type),
             Version(h.version)
         )?;
-        write!(f, ", {}", Count(h.len as usize, "byte"))
+        write!(f, ", {}", Count(h.len as usize, " byte"))
     }
 }
 
@@ -45,7 +45,7 @@ fn say_answer(
             Ok(())
         }
         Ok(p) => {
-            writeln!(to, "  {}", Count(p.count, "message"))?;
+            writeln!(to, "  {}", Count(p.count, " message"))?;
             contents::say_contents(to, record_type, p.count, content)
         }
     }
@@ -54,21 +54,21 @@ fn say_answer(
 // What a record holds that goes on with a message begun before it: its first `passed` bytes belong
 // to that, or all of it. Messages may stand behind them.
 fn say_continued(to: &mut impl Write, passed: usize, content: Placed<'_>) -> io::Result<()> {
-    let lacked = Count(passed, "byte");
+    let lacked = Count(passed, " byte");
     writeln!(
         to,
         "  goes on with the message begun before, which lacked {lacked}"
     )?;
     let here = content.len();
     if here < passed {
-        return writeln!(to, "  and lacks {} still", Count(passed - here, "byte"));
+        return writeln!(to, "  and lacks {} still", Count(passed - here, " byte"));
     }
     let own = content.rest(passed);
     if own.len() == 0 {
         return Ok(());
     }
     let all = record_walk::count_messages(own.bytes, 0).count;
-    writeln!(to, "  and has {} behind it", Count(all, "message"))?;
+    writeln!(to, "  and has {} behind it", Count(all, " message"))?;
     messages::say_messages(to, all, own)
 }
 
@@ -146,7 +146,7 @@ pub(crate) fn say_owed(to: &mut impl Write, owed: usize) -> io::Result<()> {
         writeln!(
             to,
             "the message begun last lacks {} still",
-            Count(owed, "byte")
+            Count(owed, " byte")
         )?;
     }
     Ok(())

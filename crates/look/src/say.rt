@@ -32,7 +32,7 @@ impl fmt::Display for Amount {
     }
 }
 
-// So many of what is named, which takes an s where they are not one.
+// So many of what is named, behind a blank; it takes an s where they are not one.
 #[derive(Clone, Copy)]
 pub(crate) struct Count(pub(crate) usize, pub(crate) &'static str);
 
@@ -40,7 +40,7 @@ impl fmt::Display for Count {
     fn fmt<W: fmt::Write>(&self, f: &mut fmt::Formatter<W>) -> fmt::Result {
         let Count(n, name) = *self;
         let end = if n == 1 { "" } else { "s" };
-        write!(f, "{} {name}{end}", Amount(n))
+        write!(f, "{}{name}{end}", Amount(n))
     }
 }
 
@@ -98,7 +98,7 @@ impl<'a> Placed<'a> {
 impl fmt::Display for Placed<'_> {
     fn fmt<W: fmt::Write>(&self, f: &mut fmt::Formatter<W>) -> fmt::Result {
         let from = self.from;
-        write!(f, "at {from}, {}", Count(self.bytes.len(), "byte"))
+        write!(f, "at {from}, {}", Count(self.bytes.len(), " byte"))
     }
 }
 

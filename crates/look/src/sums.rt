@@ -122,8 +122,8 @@ pub(crate) fn both(a: Sums, b: Sums) -> Sums
 // The hellos, and those that a person has to look at.
 fn say_hellos(to: &mut impl Write, s: Sums) -> io::Result<()> {
     let (clients, servers) = (
-        Count(s.clients, "ClientHello"),
-        Count(s.servers, "ServerHello"),
+        Count(s.clients, " ClientHello"),
+        Count(s.servers, " ServerHello"),
     );
     write!(
         to,
@@ -138,20 +138,20 @@ fn say_hellos(to: &mut impl Write, s: Sums) -> io::Result<()> {
 
 // What was not opened, refused or dropped, and how many bytes no record holds.
 fn say_rest(to: &mut impl Write, s: Sums, left: usize) -> io::Result<()> {
-    let (sealed, refused) = (Count(s.sealed, "record"), Amount(s.refused));
+    let (sealed, refused) = (Count(s.sealed, " record"), Amount(s.refused));
     write!(to, "  {sealed} not opened, {refused} refused")?;
-    let (dropped, left) = (Count(s.dropped, "byte"), Count(left, "byte"));
+    let (dropped, left) = (Count(s.dropped, " byte"), Count(left, " byte"));
     write!(to, ", {} going on with a message", Amount(s.continued))?;
     writeln!(to, ", {dropped} dropped, {left} left over")
 }
 
 // Prints the summary, of so many bytes, of which `left` are behind the last whole record.
 pub(crate) fn say_sums(to: &mut impl Write, s: Sums, all: usize, left: usize) -> io::Result<()> {
-    let (records, messages) = (Count(s.records, "record"), Count(s.messages, "message"));
+    let (records, messages) = (Count(s.records, " record"), Count(s.messages, " message"));
     writeln!(
         to,
         "in all: {records}, {messages}, {} read",
-        Count(all, "byte")
+        Count(all, " byte")
     )?;
     say_hellos(to, s)?;
     say_rest(to, s, left)

@@ -130,7 +130,7 @@ module _ (s : List ℕ) (b : Bytes s) {c : TlsCertificateRequestContents} where
     pairs_len = ⊎_elim form_pairs (λ y. rw (no_pairs y) (omega arith)) (by_form s e)
 
 -- the item whose length has w bytes
-of_width : (w : ℕ) (s : List ℕ) (at : ℕ) {p : Part} → Bytes s → item_from (sized w) s at ≡ accepted p
+pub of_width : (w : ℕ) (s : List ℕ) (at : ℕ) {p : Part} → Bytes s → item_from (sized w) s at ≡ accepted p
     → p.view.len < 256 ^ w
 of_width w s at {p} b e =
     let f = step_back (sized w) s at b (item_got (sized w) s at e) in

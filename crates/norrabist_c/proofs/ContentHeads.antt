@@ -57,7 +57,7 @@ module _ (t at : ℕ) (content : List ℕ) where
   own_got z e = head_16 (eq-eqb t 0x16 z) ∙ rw e
 
   -- a first message was found, and is the first of all
-  first_found : {x : TlsFound} → first_of t at content ≡ accepted x → found_at t content 0 ≡ accepted x
+  pub first_found : {x : TlsFound} → first_of t at content ≡ accepted x → found_at t content 0 ≡ accepted x
   unfolding first_of
   first_found e =
       content_accepted t at (found_at t content 0)

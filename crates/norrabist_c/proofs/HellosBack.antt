@@ -50,7 +50,7 @@ same_len v = go (eqb v.len 0) refl
     go false q = rw q
 
 -- the bytes of a vector are its length's and its own
-vector_len : (w : ℕ) (p : List ℕ) → length (bytes_of w (length p) ++ p) ≡ w + length p
+pub vector_len : (w : ℕ) (p : List ℕ) → length (bytes_of w (length p) ++ p) ≡ w + length p
 vector_len w p = length-append (bytes_of w (length p)) p ∙ ap (λ (n : ℕ). n + length p) (length_bytes w (length p))
 
 pub same_view : {a b m n : ℕ} → a ≡ b → m ≡ n → ◌≡◌ {A = View} (record { start = a; len = m })

@@ -2,11 +2,10 @@
 -- block the items that can be had from its front, which are all of them, or as many as the index of
 -- the first bad one; of an extension its type and its content, which ends where it ends.
 use Rattle.std.specs.Prelude.{◌+◌, ◌<◌, ◌≡◌}
-use Rattle.refusal.specs.{ℕ, List, Answer, accepted, refused, number_of}
+use Rattle.refusal.specs.{ℕ, List, Answer, accepted, refused, number_of, Result, Ok, Err}
 use Rattle.wire.specs.{Bytes}
 use Rattle.list.specs.declared.tagged.Tagged.{Tagged}
 use Rattle.read_ext.specs.Extensions.{InBlock, sound, damaged, extension_of, extension_from, extension_place, name_from}
-use Rattle.std.specs.Prelude.{Result, Ok, Err}
 use Rattle.read_ext.specs.declared.NotHad.{NotHad}
 use Rattle.read_ext.specs.declared.TlsExtensionFound.{TlsExtensionFound}
 use Rattle.norrabist_c.specs.declared.{extensions.ExtensionsTold.ExtensionsTold, extensions.ExtensionTold.ExtensionTold, extensions.ServerNameTold.ServerNameTold}

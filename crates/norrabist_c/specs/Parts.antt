@@ -1,11 +1,7 @@
 -- What is told of a part that may be missing: whether it is there, and its length.
-use Rattle.std.specs.Prelude.{is_some}
-use Rattle.refusal.specs.{ℕ, Bool}
+use Rattle.refusal.specs.{ℕ, is_some}
 use Rattle.wire.specs.{OptView, None, Some}
-
-pub record OptTold : Type 0 where
-  pub len : ℕ
-  pub present : Bool
+use Rattle.norrabist_c.specs.declared.parts.OptTold.{OptTold}
 
 -- the length of a part, of an absent one 0
 abbrev pub opt_len : OptView → ℕ

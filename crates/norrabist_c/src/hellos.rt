@@ -11,7 +11,7 @@ ghost use Rattle.read_others.specs.Body.{retry};
 ghost use Rattle.read_server.specs.Server.{draft18, server, server_versions};
 ghost use Rattle.refusal.specs.Answers.{accepted, refused};
 
-use crate::parts::len_of;
+use crate::parts::{len_of, opt_told};
 use read_client::TlsClientHelloContents;
 use refusal::{Reason, Refusal};
 use wire::number::Width;
@@ -44,13 +44,14 @@ fn client_told(c: TlsClientHelloContents) -> ClientHelloTold
     requires { ClientFits c }
     ensures { result ≡ client_told (accepted c) }
 {
+    let ext = opt_told(c.ext);
     ClientHelloTold {
         version: c.version,
         ciphers: c.ciphers.len as u16,
-        ext: len_of(c.ext) as u16,
+        ext: ext.len as u16,
         comp: c.comp.len as u8,
         session_id: len_of(c.session_id) as u8,
-        has_ext: c.ext.is_some(),
+        has_ext: ext.present,
         number: 0,
     }
 }
@@ -107,15 +108,18 @@ fn server_told(i: &[u8], has_ext: bool) -> ServerHelloTold
 {
     match read_server::tlsv12::parse_tls_server_hello_tlsv12(i, has_ext) {
         Err(r) => server_refused(r),
-        Ok(s) => ServerHelloTold {
-            version: s.version,
-            cipher: s.cipher,
-            ext: len_of(s.ext) as u16,
-            compression: s.compression,
-            session_id: len_of(s.session_id) as u8,
-            has_ext: s.ext.is_some(),
-            number: 0,
-        },
+        Ok(s) => {
+            let ext = opt_told(s.ext);
+            ServerHelloTold {
+                version: s.version,
+                cipher: s.cipher,
+                ext: ext.len as u16,
+                compression: s.compression,
+                session_id: len_of(s.session_id) as u8,
+                has_ext: ext.present,
+                number: 0,
+            }
+        }
     }
 }
 
@@ -141,13 +145,16 @@ fn draft18_told(i: &[u8]) -> ServerHelloTold
 {
     match read_server::tlsv13draft18::parse_tls_server_hello_tlsv13draft18(i) {
         Err(r) => server_refused(r),
-        Ok(d) => ServerHelloTold {
-            version: d.version,
-            cipher: d.cipher,
-            ext: len_of(d.ext) as u16,
-            has_ext: d.ext.is_some(),
-            ..Default::default()
-        },
+        Ok(d) => {
+            let ext = opt_told(d.ext);
+            ServerHelloTold {
+                version: d.version,
+                cipher: d.cipher,
+                ext: ext.len as u16,
+                has_ext: ext.present,
+                ..Default::default()
+            }
+        }
     }
 }
 
@@ -189,12 +196,15 @@ pub extern "C" fn norrabist_parse_tls_handshake_msg_hello_retry_request(
             number: refusal::refusal_number(r),
             ..Default::default()
         },
-        Ok(h) => HelloRetryRequestTold {
-            version: h.version,
-            cipher: h.cipher,
-            ext: len_of(h.ext) as u16,
-            has_ext: h.ext.is_some(),
-            number: 0,
-        },
+        Ok(h) => {
+            let ext = opt_told(h.ext);
+            HelloRetryRequestTold {
+                version: h.version,
+                cipher: h.cipher,
+                ext: ext.len as u16,
+                has_ext: ext.present,
+                number: 0,
+            }
+        }
     }
 }

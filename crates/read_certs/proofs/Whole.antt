@@ -1,5 +1,5 @@
 -- Each body that speaks of certificates is accepted exactly when it splits by its grammar,
--- instances of the one theorem; and equal numbers and values mean equal answers. Assumes nothing.
+-- instances of the one theorem. Assumes nothing.
 use Prim.Native.Nat.{ℕ}
 use mathlib.Core.Path.{refl}
 use mathlib.Core.Bool.{Bool, true, false}

@@ -1,7 +1,7 @@
 -- The ClientHello as a value, the times in its random, and the strict one: RULES 3.2, 3.13 to 3.15;
 -- RFC 5246 7.4.1.2.
-use Rattle.std.specs.Prelude.{◌-◌, ◌≡◌, Result, Ok, Err}
-use Rattle.refusal.specs.{ℕ, List, Option, none, some, length, eqb, leb, refusal, Answer, accepted, refused, LengthValue}
+use Rattle.std.specs.Prelude.{◌-◌, ◌≡◌}
+use Rattle.refusal.specs.{ℕ, List, Option, none, some, length, eqb, leb, refusal, Answer, accepted, refused, LengthValue, Result, Ok, Err}
 use Rattle.wire.specs.{pick, if_some, be, part_of}
 use Rattle.grammar.specs.{client_hello, client_to_fill, Form, reading, pieces, inexact, strictly}
 use Rattle.read_client.specs.declared.{Inexact.Inexact, TlsClientHelloContents.TlsClientHelloContents}

@@ -1,5 +1,5 @@
 -- What the data of an extension has to be, by its type. Assumes nothing.
-use Prim.Native.Nat.{ℕ, ◌+◌}
+use Prim.Native.Nat.{ℕ, ◌+◌, ◌^◌, ◌<◌}
 use mathlib.Core.Path.{◌≡◌, refl, sym, ap, ◌∙◌}
 use mathlib.Core.Logic.{◌⊎◌, inl, inr}
 use mathlib.Core.Bool.{Bool, true, false}
@@ -11,8 +11,10 @@ use lib.ListN.{length}
 use Rattle.refusal.specs.Answers.{Answer, accepted, refused}
 use Rattle.refusal.specs.Refusals.{refusal}
 use Rattle.refusal.specs.declared.Reason.TheVariants.{LengthValue}
-use Rattle.wire.specs.Numbers.{Bytes}
+use Rattle.wire.specs.Numbers.{Bytes, bytes_in}
 use Rattle.wire.specs.Parts.{part_of}
+use Rattle.wire.specs.declared.number.Width.{Width}
+use Rattle.wire.specs.declared.number.Width.TheVariants.{One, Two, Three, Four}
 use Rattle.wire.specs.declared.view.Part.{Part}
 use Rattle.field.specs.Fields.{Field, fixed, vector}
 use Rattle.field.specs.Standing.{field_bytes, place_of, view_of}
@@ -25,6 +27,13 @@ use Rattle.read_ext.specs.Kinds.{ByKind, EveryKind}
 -- a type that is none of the three
 pub kind_raw : (t n : ℕ) → (t ≡ 0 → ⊥) → (t ≡ 1 → ⊥) → (t ≡ 10 → ⊥) → kind_of t n ≡ raw n
 kind_raw t n a b c = rw (ne_eqb t 0 a, ne_eqb t 1 b, ne_eqb t 10 c)
+
+-- a number of any width can be 0
+pub width_above : (w : Width) → 0 < 256 ^ bytes_in w
+width_above One = omega arith
+width_above Two = omega arith
+width_above Three = omega arith
+width_above Four = omega arith
 
 -- a test has one outcome
 true_false : true ≡ false → ⊥

@@ -14,12 +14,14 @@ use Rattle.refusal.specs.Refusals.{refusal}
 use Rattle.refusal.specs.declared.Reason.TheVariants.{LengthValue}
 use Rattle.refusal.specs.declared.Refusal.{Refusal}
 use Rattle.list.specs.Items.{or_no_such}
+use Rattle.list.specs.Stepping.{MovesOn}
 use Rattle.list.specs.Tagged.{Fit, any_data, tagged_at, fit_at, tagged_end, filled}
 use Rattle.list.specs.declared.tagged.Tagged.{Tagged}
+use Rattle.list.proofs.Stepping.{onward, or_tells}
 use Rattle.list.proofs.Stopping.{moves_by}
 use Rattle.list.proofs.Tags.{moves, fit_any}
 use Rattle.list.proofs.Walk.{Moves, rest, got}
-use Rattle.read_ext.specs.Extensions.{reach_in, name_from, InBlock, sound, damaged, if_sound, items_of, opened, opened_from, index_in, extensions, extension_from, extension_says}
+use Rattle.read_ext.specs.Extensions.{reach_in, name_from, InBlock, sound, damaged, if_sound, items_of, past_item, past_name, opened, opened_from, index_in, extensions, extension_from, extension_says}
 use Rattle.read_ext.specs.declared.Damage.{Damage}
 use Rattle.read_ext.specs.declared.NotHad.{NotHad}
 use Rattle.read_ext.specs.declared.NotHad.TheVariants as one
@@ -47,9 +49,15 @@ unfolding name_from
 name_is s at = rw (fit_any 1 s at)
 
 -- so is a step over names one over items
-pub name_step : (s : List ℕ) (at : ℕ) {a : Answer ℕ} → a ≡ giving past (name_from s at)
-    → a ≡ giving past (or_no_such (fit_at 1 any_data s at))
-name_step s at e = e ∙ ap (giving past) (name_is s at)
+pub name_says : (s : List ℕ) (at : ℕ) → past_name s at ≡ giving past (or_no_such (fit_at 1 any_data s at))
+name_says s at = ap (giving past) (name_is s at)
+
+-- each item, and each name, ends behind where it begins
+pub item_onward : (s : List ℕ) → MovesOn (past_item s)
+item_onward s at next b e = onward (turn 2 fits s) (or_tells (λ n. refl)) e
+
+pub name_onward : (s : List ℕ) → MovesOn (past_name s)
+name_onward s at next b e = onward (turn 1 any_data s) (or_tells (name_says s)) e
 
 -- an item is opened where there is one, and else there is NoSuch
 pub opened_or : (s : List ℕ) (a : Answer Tagged) → or_no_such (giving (opened s) a) ≡ giving (opened s) (or_no_such a)

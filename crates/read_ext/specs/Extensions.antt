@@ -1,7 +1,7 @@
 -- An extension block, read: RULES 11; RFC 5246 7.4.1.4. Its items fill it, each with data of its
 -- kind, or the block is refused as a whole, with the index of the first item that cannot be had.
-use Rattle.std.specs.Prelude.{◌-◌, ◌≡◌, Result, Ok, Err}
-use Rattle.refusal.specs.{ℕ, List, Bool, length, eqb, Option, none, some, refusal, Answer, accepted, refused, then, Refusal, LengthValue, giving}
+use Rattle.std.specs.Prelude.{◌-◌, ◌≡◌}
+use Rattle.refusal.specs.{ℕ, List, Bool, length, eqb, Option, none, some, refusal, Answer, accepted, refused, then, Refusal, LengthValue, giving, Result, Ok, Err}
 use Rattle.refusal.specs.Answers.{TellSame}
 use Rattle.wire.specs.{pick, number_at, Number, View}
 use Rattle.field.specs.Standing.{place_of}
@@ -27,6 +27,10 @@ answer_in (damaged n r) = refused r
 -- the items, up to the first that cannot be had
 abbrev pub items_of : List ℕ → List Tagged
 items_of s = tagged_in 2 fits s
+
+-- where the item ends that begins at a place; NoSuch where none does
+abbrev pub past_item : List ℕ → ℕ → Answer ℕ
+past_item s at = giving (λ x. x.next) (or_no_such (fit_at 2 fits s at))
 
 -- what a sound block gives; LengthValue for a damaged one, at the first byte of its first bad item
 unfoldable pub if_sound : {A : Type 0} → List ℕ → A → InBlock A
@@ -80,6 +84,9 @@ reach_in w fit s = record { count = length (tagged_in w fit s); end = tagged_end
 -- RULES 11.9: of a list of names, those up to the first that does not fit
 unfoldable pub name_from : List ℕ → ℕ → Answer Tagged
 name_from s at = or_no_such (tagged_at 1 s at)
+
+abbrev pub past_name : List ℕ → ℕ → Answer ℕ
+past_name s at = giving (λ x. x.next) (name_from s at)
 
 abbrev pub names_in : List ℕ → List Tagged
 names_in s = tagged_in 1 any_data s

@@ -5,6 +5,7 @@
 
 ghost use Rattle.std.specs.Prelude.{◌≡◌, ℕ, ◌+◌, ◌^◌, ◌<◌, ◌≤◌, length};
 ghost use Rattle.list.specs.Items.{place, or_no_such};
+ghost use Rattle.list.specs.Stepping.{MovesOn};
 ghost use Rattle.list.specs.Tagged.{fit_at};
 ghost use Rattle.field.specs.Standing.{place_of};
 ghost use Rattle.read_ext.specs.Kinds.{fits, kind_of};
@@ -12,11 +13,11 @@ ghost use Rattle.refusal.specs.Answers.{giving, as_answer};
 ghost use Rattle.refusal.specs.Refusals.{refusal};
 ghost use Rattle.refusal.specs.declared.Reason.TheVariants.{LengthValue};
 ghost use Rattle.wire.specs.Numbers.{bytes_in};
-ghost use Rattle.read_ext.specs.Extensions.{reach_in, extension_from, extension_of, extension_place, extension_says, extensions, extensions_says, items_of, number_there, opened, opened_from};
+ghost use Rattle.read_ext.specs.Extensions.{reach_in, extension_from, extension_of, extension_place, extension_says, extensions, extensions_says, items_of, past_item, number_there, opened, opened_from};
 ghost use Rattle.read_ext.specs.declared.NotHad.TheVariants.{Damaged};
 
 use field::RuleName;
-use list::steps::{self, Counted};
+use list::steps::{self, Counted, Step};
 use list::tagged::Tagged;
 use refusal::{Reason, Refusal};
 use wire::number::Width;
@@ -106,11 +107,29 @@ fn item_from(block: &[u8], at: usize) -> Result<Tagged, Refusal>
     }
 }
 
+// The walk over the items of a block, one each step.
+#[derive(Clone, Copy)]
+struct Items<'a> {
+    block: &'a [u8],
+    ghost onward: { MovesOn (past_item block.now) },
+}
+
+impl Step for Items<'_> {
+    ghost answered = { λ x. past_item x.block.now };
+
+    #[inline(always)]
+    fn past(&self, at: usize) -> Result<usize, Refusal> {
+        Ok(item_from(self.block, at)?.next)
+    }
+
+    ghost moves_on = { λ x. x.onward };
+}
+
 // Counts the items up to the first that cannot be had.
 fn count_items(block: &[u8]) -> Counted
     ensures { result ≡ reach_in 2 fits block.now }
 {
-    steps::count(|at| Ok(item_from(block, at)?.next), 0)
+    steps::count(&Items { block }, 0)
 }
 
 // What is wrong with a block that its items do not fill.
@@ -201,7 +220,7 @@ fn open_from(block: &[u8], at: usize) -> Result<TlsExtensionFound, Refusal>
 fn item_at(block: &[u8], n: usize) -> Result<TlsExtensionFound, Refusal>
     ensures { as_answer result ≡ giving (opened block.now) (place n (items_of block.now)) }
 {
-    let from = steps::skip(|from| Ok(item_from(block, from)?.next), n)?;
+    let from = steps::skip(&Items { block }, n)?;
     open_from(block, from)
 }
 

@@ -3,12 +3,13 @@
 // and the list of an extension that was read has none such.
 ghost use Rattle.std.specs.Prelude.{◌≡◌, length};
 ghost use Rattle.list.specs.Items.{place};
+ghost use Rattle.list.specs.Stepping.{MovesOn};
 ghost use Rattle.list.specs.Tagged.{any_data, TaggedBelow};
 ghost use Rattle.read_ext.specs.Kinds.{names_fill};
-ghost use Rattle.read_ext.specs.Extensions.{reach_in, name_from, names_in};
+ghost use Rattle.read_ext.specs.Extensions.{reach_in, name_from, names_in, past_name};
 ghost use Rattle.refusal.specs.Answers.{as_answer};
 
-use list::steps::{self, Counted};
+use list::steps::{self, Counted, Step};
 use list::tagged::Tagged;
 use refusal::{Reason, Refusal};
 use wire::number::Width;
@@ -23,11 +24,29 @@ pub fn name_from(list: &[u8], at: usize) -> Result<Tagged, Refusal>
     list::tagged::tagged_from(list, at, Width::One).map_err(|_| none)
 }
 
+// The walk over the names of a list, one each step.
+#[derive(Clone, Copy)]
+struct Names<'a> {
+    list: &'a [u8],
+    ghost onward: { MovesOn (past_name list.now) },
+}
+
+impl Step for Names<'_> {
+    ghost answered = { λ x. past_name x.list.now };
+
+    #[inline(always)]
+    fn past(&self, at: usize) -> Result<usize, Refusal> {
+        Ok(name_from(self.list, at)?.next)
+    }
+
+    ghost moves_on = { λ x. x.onward };
+}
+
 // Counts the names up to the first that does not fit.
 fn count_names(list: &[u8]) -> Counted
     ensures { result ≡ reach_in 1 any_data list.now }
 {
-    steps::count(|at| Ok(name_from(list, at)?.next), 0)
+    steps::count(&Names { list }, 0)
 }
 
 // Whether names fill the bytes, which may be none.
@@ -48,6 +67,6 @@ pub fn name_count(list: &[u8]) -> usize
 pub fn name_at(list: &[u8], n: usize) -> Result<Tagged, Refusal>
     ensures { as_answer result ≡ place n (names_in list.now) }
 {
-    let from = steps::skip(|from| Ok(name_from(list, from)?.next), n)?;
+    let from = steps::skip(&Names { list }, n)?;
     name_from(list, from)
 }

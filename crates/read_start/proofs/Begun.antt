@@ -1,5 +1,5 @@
--- What the answer for version, random and session id says of a reading that begins with them; and
--- equal numbers and values mean equal answers. Assumes nothing.
+-- What the answer for version, random and session id says of a reading that begins with them.
+-- Assumes nothing.
 use Prim.Native.Nat.{ℕ}
 use mathlib.Core.Path.{◌≡◌, refl, ap, sym, ◌∙◌}
 use mathlib.Core.Logic.{◌⊎◌, inl, inr}

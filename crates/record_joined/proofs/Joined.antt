@@ -47,6 +47,15 @@ part_short s v = go (leb (v.start + v.len) (length s)) refl
     go true q = omega (arith, part_length s v (leb-true _ _ q))
     go false q = omega (arith, ap length (part_none s v (leb-false _ _ q)))
 
+-- a place in a part is one in the whole, or the part's own start
+pub place_below : (s : List ℕ) (v : View) (k n : ℕ) → k ≤ length (part_of s v) → v.start < n → length s < n
+    → v.start + k < n
+place_below s v k n h i j = go (leb (v.start + v.len) (length s)) refl
+  where
+    go : (t : Bool) → leb (v.start + v.len) (length s) ≡ t → v.start + k < n
+    go true q = let l : v.start + v.len ≤ length s = leb-true _ _ q in omega (arith, part_short s v)
+    go false q = omega (arith, ap length (part_none s v (leb-false _ _ q)))
+
 -- a record that was read at a place lies within the bytes from there on
 pub raw_in : (s : List ℕ) (at : ℕ) {r : TlsRawRecord} → reading raw (drop at s) ≡ accepted r
     → (r.«data».start ≤ r.next) × (at + r.next ≤ length s)

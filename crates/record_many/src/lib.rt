@@ -3,10 +3,12 @@
 #![tactic(auto, using(crate::proofs::Records::plain_lies), unfolding(crate::specs::Many::many, crate::specs::Many::moved_records, crate::specs::Many::next_record, crate::specs::Many::plaintext_from, crate::specs::Many::record_past, crate::specs::Many::records_told))]
 
 ghost use Rattle.std.specs.Prelude.{◌≡◌};
+ghost use Rattle.list.specs.Stepping.{MovesOn};
 ghost use Rattle.record_many.specs.Many.{many, moved_records, next_record, plaintext_from, record_past, records_told};
 ghost use Rattle.refusal.specs.Answers.{as_answer};
 
 pub use list::steps::Counted as TlsRecords;
+use list::steps::Step;
 use record_open::TlsPlaintext;
 use refusal::{Reason, Refusal};
 use wire::view::View;
@@ -39,13 +41,38 @@ fn past_record(s: &[u8], at: usize) -> Result<usize, Refusal>
     Ok(at + x.next)
 }
 
+// The walk over joined records, one each step.
+#[derive(Clone, Copy)]
+struct Joined<'a> {
+    s: &'a [u8],
+    ghost onward: { MovesOn (record_past s.now) },
+}
+
+impl Step for Joined<'_> {
+    ghost answered = { λ x. record_past x.s.now };
+
+    #[inline(always)]
+    fn past(&self, at: usize) -> Result<usize, Refusal> {
+        past_record(self.s, at)
+    }
+
+    ghost moves_on = { λ x. x.onward };
+}
+
+// How many records there are from `from` on, up to the first that is refused, and where they end.
+fn count_on(s: &[u8], from: usize) -> TlsRecords
+    ensures { result ≡ records_told s.now from }
+{
+    list::steps::count(&Joined { s }, from)
+}
+
 // Reads joined records until the first that is refused: how many they are, and where reading
 // stopped. Where the first is refused, that is the answer, with Complete for Incomplete.
 pub fn tls_parser_many(i: &[u8]) -> Result<TlsRecords, Refusal>
     ensures { as_answer result ≡ many i.now }
 {
     past_record(i, 0).map_err(|r| record_open::first_refusal(r, 0))?;
-    Ok(list::steps::count(|at| past_record(i, at), 0))
+    Ok(count_on(i, 0))
 }
 
 // Where the walk stands: at the byte where the next record begins.

@@ -13,7 +13,7 @@ use Rattle.wire.specs.declared.number.Number.{Number}
 use Rattle.wire.proofs.Numbers.{be_drop, number_is, number_short}
 use Rattle.record_tally.specs.Tally.{lacking_at}
 
-no_head_lem : (s : List ℕ) (at : ℕ) → length (drop at s) < 4 → lacking_at s at ≡ 0
+pub no_head_lem : (s : List ℕ) (at : ℕ) → length (drop at s) < 4 → lacking_at s at ≡ 0
 unfolding lacking_at
 no_head_lem s at h = rw (lt-leb (at + 4) (length s) (omega (arith, length-drop at s)))
 
@@ -22,7 +22,7 @@ same_number : (s : List ℕ) (at : ℕ) → be 3 s (at + 1) ≡ be 3 (drop at s)
 same_number s at = be_drop 3 s (at + 1)
     ∙ sym (be_drop 3 (drop at s) 1 ∙ ap (λ (d : List ℕ). be 3 d 0) (drop-drop 1 at s))
 
-by_head : (s : List ℕ) (at : ℕ) → 4 ≤ length (drop at s)
+pub by_head : (s : List ℕ) (at : ℕ) → 4 ≤ length (drop at s)
     → lacking_at s at ≡ be 3 (drop at s) 1 - (length (drop at s) - 4)
 unfolding lacking_at
 by_head s at h =

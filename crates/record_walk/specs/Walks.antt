@@ -25,6 +25,10 @@ dropped s = left_over_of (λ x. x.head.next) (messages s) (length s)
 unfoldable pub met_head : List ℕ → ℕ → Answer TlsMessageHead
 met_head s at = giving (λ x. x.head) (met_at s at)
 
+-- and where it ends
+abbrev pub past_met : List ℕ → ℕ → Answer ℕ
+past_met s at = giving (λ x. x.head.next) (met_at s at)
+
 -- a body of this type is opened whatever it holds
 abbrev pub OpensAny : ℕ → Type 0
 OpensAny msgType = (s : List ℕ) → (m : TlsMessageHandshake) × (by_type msgType s ≡ accepted m)

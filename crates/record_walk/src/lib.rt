@@ -2,11 +2,13 @@
 #![tactic(auto, using(crate::proofs::Walking::met_is), unfolding(crate::specs::Walks::met_head, crate::specs::Walks::moved, crate::specs::Walks::next_message))]
 
 ghost use Rattle.std.specs.Prelude.{true, ◌≡◌, length};
-ghost use Rattle.record_walk.specs.Walks.{OpensAny, messages_from, met_head, moved, next_message, past_all, fresh_walk};
+ghost use Rattle.list.specs.Stepping.{MovesOn};
+ghost use Rattle.record_walk.specs.Walks.{OpensAny, messages_from, met_head, moved, next_message, past_all, past_met, fresh_walk};
 ghost use Rattle.envelope.specs.Opening.{met_at};
 ghost use Rattle.refusal.specs.Answers.{refused, as_answer};
 
 use envelope::TlsMessageHead;
+use list::steps::Step;
 pub use list::steps::Tally;
 use message::handshake::TlsMessageHandshake;
 use refusal::{Reason, Refusal};
@@ -95,11 +97,29 @@ pub fn meet_tls_message(s: &[u8], at: usize) -> Result<TlsMessageHead, Refusal>
     Ok(head)
 }
 
+// The walk over the messages of a record, one each step.
+#[derive(Clone, Copy)]
+struct Messages<'a> {
+    s: &'a [u8],
+    ghost onward: { MovesOn (past_met s.now) },
+}
+
+impl Step for Messages<'_> {
+    ghost answered = { λ x. past_met x.s.now };
+
+    #[inline(always)]
+    fn past(&self, at: usize) -> Result<usize, Refusal> {
+        Ok(meet_tls_message(self.s, at)?.next)
+    }
+
+    ghost moves_on = { λ x. x.onward };
+}
+
 // Counts the messages from `from` on, up to the first that is refused.
 pub fn count_messages(s: &[u8], from: usize) -> Tally
     ensures count_value { result.count ≡ length (messages_from s.now from) }
     ensures end_value { result.end ≡ past_all (messages_from s.now from) from }
     ensures end_value_2 { met_at s.now result.end ≡ refused result.stop }
 {
-    list::steps::count_to_stop(|at| Ok(meet_tls_message(s, at)?.next), from)
+    list::steps::count_to_stop(&Messages { s }, from)
 }

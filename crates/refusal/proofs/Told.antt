@@ -86,12 +86,22 @@ told (refused r) (refused r') (n, v) = ap refused (one_refusal r r' (one_reason 
 pub case : {A B : Type 0} (says : B → Answer A) {o x : B} {a : Answer A} → says o ≡ a → o ≡ x → a ≡ says x
 case says e g = sym e ∙ ap says g
 
--- a `Result` loses nothing
+-- an enum with a way back from what it says loses nothing either
+pub tells_all : {A B : Type 0} (says : B → Answer A) (back : Answer A → B) → ((b : B) → back (says b) ≡ b)
+    → OneResult says
+tells_all says back home x y e = sym (home x) ∙ ap back (told (says x) (says y) e) ∙ home y
+
+-- such an enum is `Result`
+abbrev result_back : {A : Type 0} → Answer A → Result A Refusal
+result_back (accepted a) = Ok a
+result_back (refused r) = Err r
+
+result_home : {A : Type 0} (x : Result A Refusal) → result_back (as_answer x) ≡ x
+result_home (Ok a) = refl
+result_home (Err r) = refl
+
 pub one_result : {A : Type 0} → OneResult (as_answer {A = A})
-one_result (Ok a) (Ok b) (n, v) = cc
-one_result (Ok a) (Err r) (n, v) = absurd (not_zero_lem r.reason n)
-one_result (Err r) (Ok b) (n, v) = absurd (not_zero_lem r.reason (sym n))
-one_result (Err r) (Err r') (n, v) = ap Err (one_refusal r r' (one_reason r.reason r'.reason n))
+one_result = tells_all as_answer result_back result_home
 
 -- what `?` hands on says that refusal
 pub hands_on : {A : Type 0} (x : Result A Refusal) {e : Refusal} {a : Answer A} → IsErr x × IsErrAnd x (λ d. d ≡ e)

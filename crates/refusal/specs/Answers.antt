@@ -1,7 +1,7 @@
 -- An answer, which is a value or one refusal: RULES 0.1, 9.1, 10.16. `as_answer` takes each
 -- `Result` of the code, by cases, into this: the table's number and the values.
-use Rattle.std.specs.Prelude.{◌≡◌, Result, Ok, Err}
-use Rattle.refusal.specs.Words.{ℕ, Option, none, some}
+use Rattle.std.specs.Prelude.{◌≡◌}
+use Rattle.refusal.specs.Words.{ℕ, Option, none, some, Result, Ok, Err}
 use Rattle.refusal.specs.Refusals.{number_of, inside}
 use Rattle.refusal.specs.declared.Refusal.{Refusal}
 

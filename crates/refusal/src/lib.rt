@@ -26,6 +26,11 @@ pub enum Reason {
 
 // Prints a reason by its name in the table.
 impl fmt::Display for Reason {
+    ghost use Rattle.std.specs.Prelude.{Some};
+    ghost use Rattle.refusal.specs.Names.{name_of};
+
+    ghost output = { λ r. Some (name_of r) };
+
     fn fmt<W: fmt::Write>(&self, f: &mut fmt::Formatter<W>) -> fmt::Result {
         f.write_str(match self {
             Reason::Incomplete => "Incomplete",
@@ -51,6 +56,11 @@ pub struct Refusal {
 
 // Prints a refusal by the name of its reason.
 impl fmt::Display for Refusal {
+    ghost use Rattle.std.specs.Prelude.{Some};
+    ghost use Rattle.refusal.specs.Names.{name_of};
+
+    ghost output = { λ r. Some (name_of r.reason) };
+
     fn fmt<W: fmt::Write>(&self, f: &mut fmt::Formatter<W>) -> fmt::Result {
         write!(f, "{}", self.reason)
     }

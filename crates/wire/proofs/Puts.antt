@@ -4,9 +4,11 @@ use mathlib.Core.Path.{◌≡◌, sym, ap, ◌∙◌}
 use mathlib.Core.List.{List, [], ◌∷◌, ◌++◌, append_assoc}
 use native.Mathlib.Omega.{arith}
 use native.Mathlib.Nat.{add-zero}
+use native.Mathlib.Numerals.{add-one}
 use borrow.Author.Tests.{le-leb, lt-leb, le-ltb, lt-ltb}
-use lib.ListN.{length, take, drop, set, length-append, length-drop, length-set, take-append-drop}
-use lib.Seq.{take_at, drop_at, drop-drop, length-take-le, drop-cons, take-set-le, drop-set-lt, get_or-set_same}
+use lib.ListN.{length, get_or, take, drop, set, length-append, length-drop, length-set, take-append-drop}
+use lib.Seq.{take_at, drop_at, drop-drop, length-take-le, drop-cons, set_at, take-set-le, drop-set-lt, get_or-set_same}
+use lib.Seq.{take-suc}
 use Rattle.refusal.specs.Answers.{Answer, accepted, refused}
 use Rattle.refusal.specs.Refusals.{unplaced}
 use Rattle.refusal.specs.declared.Reason.TheVariants.{BadLength}
@@ -42,6 +44,29 @@ put_put d at xs ys h =
     rw (e, ← drop-drop (length ys) (at + length xs), drop_at (take at d ++ xs) z _ l, drop-drop) in
     let n : at + length (xs ++ ys) ≡ at + length xs + length ys = rw length-append (omega arith) in
     rw (a, b, n) (append_assoc (take at d) xs _ ∙ ap (λ (r : List ℕ). take at d ++ r) (sym (append_assoc xs ys _)))
+
+-- one byte more, behind
+set_put : (d : List ℕ) (at : ℕ) (xs : List ℕ) (y : ℕ) → at + length xs < length d
+    → set (put d at xs) (at + length xs) y ≡ put d at (xs ++ (y ∷ []))
+unfolding put
+set_put d at xs y h =
+    let l = front d at xs (omega arith) in
+    let n : at + length (xs ++ (y ∷ [])) ≡ suc (at + length xs) = rw length-append (omega arith) in
+    rw (
+      ← append_assoc (take at d) xs (drop (at + length xs) d),
+      drop-cons d (at + length xs) 0 h,
+      set_at (take at d ++ xs) _ _ y _ l,
+      n,
+    )
+    (simp append_assoc)
+
+-- a turn of the copy
+pub copy_next : (d : List ℕ) (at : ℕ) (s : List ℕ) (k : ℕ) → at + length s ≤ length d → k < length s
+    → set (put d at (take k s)) (at + k) (get_or s k 0) ≡ put d at (take (k + 1) s)
+copy_next d at s k h l =
+    let n : length (take k s) ≡ k = length-take-le k s (omega arith) in
+    let e = set_put d at (take k s) (get_or s k 0) (rw n (omega arith)) in
+    rw (add-one, take-suc s k 0 l) (rw n at e)
 
 -- a byte set, and then the bytes before it
 put_set : (d : List ℕ) (at : ℕ) (xs : List ℕ) (y : ℕ) → at + length xs < length d

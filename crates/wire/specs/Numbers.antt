@@ -1,8 +1,7 @@
 -- Numbers of any width, the highest byte first: RULES 2.1, 2.3. RFC 5246 4.1 gives the sum of the
 -- bytes, 4.4 the widths.
-use Rattle.refusal.specs.declared.Refusal.{Refusal}
-use Rattle.std.specs.Prelude.{◌+◌, ◌*◌, ◌/◌, ◌%◌, ◌^◌, ◌<◌, ◌≤◌, ◌≡◌, ◌∷◌, ◌++◌, Result, IfOk}
-use Rattle.refusal.specs.{ℕ, zero, suc, List, [], length, take, get_or, ltb, unplaced, Answer, accepted, refused, Incomplete, BadLength, giving}
+use Rattle.std.specs.Prelude.{◌+◌, ◌*◌, ◌/◌, ◌%◌, ◌^◌, ◌<◌, ◌≤◌, ◌≡◌, ◌∷◌, ◌++◌}
+use Rattle.refusal.specs.{ℕ, zero, suc, List, [], length, take, get_or, ltb, unplaced, Answer, accepted, refused, Incomplete, BadLength, giving, Refusal, Result, IfOk}
 use Rattle.wire.specs.Parts.{pick, part_at}
 use Rattle.wire.specs.declared.{number.Number.Number, number.Width.Width}
 use Rattle.wire.specs.declared.number.Width.TheVariants.{One, Two, Three, Four}

@@ -1,9 +1,7 @@
 -- Parts of the bytes lent: what a view names, and the bytes from a place on. RULES 2.6: a view that
 -- does not lie within the bytes gives the empty part.
 use Rattle.std.specs.Prelude.{◌+◌, ◌-◌, ◌∷◌}
-use Rattle.refusal.specs.{ℕ, List, [], Bool, true, false, Option, none, some, length, take, drop, leb, eqb, refusal, Answer, accepted, refused, Reason, Refusal}
-use Rattle.std.specs.declared.option.Option as may_be
-use Rattle.std.specs.Prelude.{Some, None}
+use Rattle.refusal.specs.{ℕ, List, [], Bool, true, false, Option, none, some, MayBe, None, Some, length, take, drop, leb, eqb, refusal, Answer, accepted, refused, Reason, Refusal}
 use Rattle.wire.specs.declared.{view.Part.Part, view.View.View}
 
 -- the first where the test holds, else the second
@@ -31,7 +29,7 @@ part_of s v = pick (lies_in s v) (take v.len (drop v.start s)) []
 
 -- a part that may be missing, as the code has it
 abbrev pub OptView : Type 0
-OptView = may_be.Option View
+OptView = MayBe View
 
 -- the bytes of a part that may be missing: a missing one has none
 abbrev pub opt_part_of : List ℕ → OptView → List ℕ

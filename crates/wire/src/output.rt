@@ -14,11 +14,14 @@ pub fn room_for(out: &[u8], at: usize, n: usize) -> Result<Part, Refusal>
 }
 
 // Sets the bytes from `at` on to those of `src`.
+// stays: `copy_from_slice` calls `memmove`, and the archive for C needs no library.
 fn put_bytes(out: &mut [u8], at: usize, src: &[u8])
     requires { at + length src.now ≤ length out.old }
     ensures { out.new ≡ put out.old at src.now }
 {
-    out[at..at + src.len()].copy_from_slice(src);
+    for k in 0..src.len() {
+        out[at + k] = src[k];
+    }
 }
 
 // Copies `src` to a place, or NoRoom. A refusal changes no byte.

@@ -13,9 +13,11 @@ use Rattle.field.proofs.Rules.{unless_none}
 use Rattle.read_client.specs.Client.{client}
 use Rattle.read_client.specs.declared.TlsClientHelloContents.{TlsClientHelloContents}
 use Rattle.write_rules.specs.HelloTexts.{hello_bytes}
-use Rattle.write_rules.specs.JoinTexts.{may_join, join_bytes}
+use Rattle.write_rules.specs.JoinTexts.{may_join, join_bytes, join_text}
+use Rattle.write_rules.specs.MessageTexts.{head_text}
 use Rattle.write_rules.proofs.Hellos.{Obeyed}
-use Rattle.write_rules.proofs.Joins.{Joined, joined, in_row, row_join}
+use Rattle.write_rules.proofs.Joins.{Joined, joined, in_row, row_join, join_message}
+use Rattle.write_rules.proofs.Messages.{Message}
 use Rattle.write_client.specs.Slices.{client_rows, client_parts}
 
 pub record ClientBounds (i c m e : List ℕ) : Type 0 where
@@ -57,6 +59,13 @@ module _ (random id ciphers comp ext : List ℕ) {t : Bool}
   pub may_length : (v : ℕ) → 40 + length id + length ciphers + length comp + length ext
       ≡ length (join_bytes client_rows (client_parts v random id ciphers comp) ext)
   may_length v = sym (parts_length v random id ciphers comp ext (joined _ _ _ (may_write v)))
+
+  -- the message round them
+  pub may_message : (v : ℕ) → Message (head_text 0x01) 4 (join_text client_rows (client_parts v random id ciphers comp) ext)
+      (join_bytes client_rows (client_parts v random id ciphers comp) ext) (40 + length id + length ciphers + length comp + length ext)
+  may_message v =
+      join_message client_rows (client_parts v random id ciphers comp) ext 0x01 _ (may_write v) (may_length v)
+      (omega (arith, may_bounds))
 
 module _ (s : List ℕ) (m : TlsClientHelloContents) (h : Obeyed client s m) where
   pub client_length : length (hello_bytes client s m)

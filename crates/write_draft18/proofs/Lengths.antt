@@ -11,9 +11,11 @@ use Rattle.wire.proofs.Numbers.{length_bytes}
 use Rattle.read_server.specs.Server.{draft18}
 use Rattle.read_server.specs.declared.tlsv13draft18.TlsServerHelloV13Draft18Contents.{TlsServerHelloV13Draft18Contents}
 use Rattle.write_rules.specs.HelloTexts.{hello_bytes}
-use Rattle.write_rules.specs.JoinTexts.{may_join, join_bytes}
+use Rattle.write_rules.specs.JoinTexts.{may_join, join_bytes, join_text}
+use Rattle.write_rules.specs.MessageTexts.{head_text}
 use Rattle.write_rules.proofs.Hellos.{Obeyed}
-use Rattle.write_rules.proofs.Joins.{Joined, joined, in_row, row_join}
+use Rattle.write_rules.proofs.Joins.{Joined, joined, in_row, row_join, join_message}
+use Rattle.write_rules.proofs.Messages.{Message}
 use Rattle.write_draft18.specs.Slices.{draft18_rows, draft18_parts}
 
 pub record Draft18Bounds (e : List ℕ) : Type 0 where
@@ -40,6 +42,13 @@ module _ (random ext : List ℕ) {t : Bool} (w : (v c : ℕ) → t ≡ may_join 
 
   pub may_length : (v c : ℕ) → 38 + length ext ≡ length (join_bytes draft18_rows (draft18_parts v random c) ext)
   may_length v c = sym (parts_length v random c ext (joined _ _ _ (may_write v c)))
+
+  -- the message round them
+  pub may_message : (v c : ℕ) → Message (head_text 0x02) 4 (join_text draft18_rows (draft18_parts v random c) ext)
+      (join_bytes draft18_rows (draft18_parts v random c) ext) (38 + length ext)
+  may_message v c =
+      join_message draft18_rows (draft18_parts v random c) ext 0x02 _ (may_write v c) (may_length v c)
+      (omega (arith, may_bounds))
 
 module _ (s : List ℕ) (m : TlsServerHelloV13Draft18Contents) (h : Obeyed draft18 s m) where
   pub draft18_length : length (hello_bytes draft18 s m) ≡ 38 + length (opt_part_of s m.ext)

@@ -16,7 +16,7 @@ use Rattle.refusal.specs.declared.Reason.TheVariants.{BadLength, Incomplete, Not
 use Rattle.refusal.specs.declared.Refusal.{Refusal}
 use Rattle.refusal.proofs.Then.{not_both, then_accepted, then_refused, either}
 use Rattle.wire.specs.Parts.{pick, lies_in, part_of}
-use Rattle.wire.specs.Puts.{put, room, written}
+use Rattle.wire.specs.Puts.{put, room, room_at, written}
 use Rattle.wire.specs.Numbers.{bytes_of, number_text}
 use Rattle.wire.specs.declared.view.Part.{Part}
 use Rattle.wire.proofs.Parts.{found, fits, room_in}
@@ -33,7 +33,7 @@ use Rattle.read_ext.specs.Extensions.{number_there}
 use Rattle.read_ext.specs.Splits.{data_bytes, ext_bytes}
 use Rattle.write_rules.specs.MessageTexts.{view_text, message_text}
 use Rattle.write_rules.proofs.Fields.{Left, begin, next}
-use Rattle.write_rules.proofs.Messages.{Message, message_not, body_fits, whole_is, length_whole, message_by}
+use Rattle.write_rules.proofs.Messages.{Wrote, Message, message_not, body_fits, no_room, wrote, message_by}
 use Rattle.write_ext.specs.ExtTexts.{may_stand, ext_text, join_texts, capped, row_of, row_from, rows, row_text, raw_row}
 use Rattle.write_ext.specs.ExtTexts.{joined_in, rows_text, RowsFit}
 use Rattle.write_ext.specs.declared.rows.Row.{Row}
@@ -51,7 +51,7 @@ failed true a r e = absurd (not_both e refl)
 failed false a r e = (refl, e)
 
 -- what an answer made of another says of it
-pub giving_accepted : {A B : Type 0} (make : A → B) (x : Answer A) {b : B} → giving make x ≡ accepted b → (a : A)
+giving_accepted : {A B : Type 0} (make : A → B) (x : Answer A) {b : B} → giving make x ≡ accepted b → (a : A)
     × (x ≡ accepted a) × (b ≡ make a)
 giving_accepted make (accepted a) {b} e = let d : accepted (make a) ≡ accepted b = e in (a, refl, cc)
 giving_accepted make (refused r) e = absurd (not_both e refl)
@@ -449,7 +449,7 @@ module _ (v s : List ℕ) {k : ℕ} (q : giving length (joined_in v s) ≡ accep
       let g = giving_accepted length (joined_in v s) q in
       omega (arith, g.2, (joined_is v s g.1).1)
 
-  abbrev message : (bs : List ℕ) × Message (number_text 2) 2 (joined_in v s) bs k
+  message : (bs : List ℕ) × Message (number_text 2) 2 (joined_in v s) bs k
   message =
       let g = giving_accepted length (joined_in v s) q in
       let h : k < 65536 = omega (arith, all_short) in (
@@ -464,24 +464,17 @@ module _ (v s : List ℕ) {k : ℕ} (q : giving length (joined_in v s) ≡ accep
       )
 
   -- there is room for them behind it
-  pub all_fit : (d : List ℕ) → 2 + k ≤ length d → RowsFit v s (mid_of 2 (length d - 2) d)
-  all_fit d h = let m = message in (m.0, m.1.is, body_fits d m.1 (room_in d 0 (2 + k) (omega arith)))
+  pub all_fit : (d : List ℕ) {p : Part} → room_at d 0 (2 + k) ≡ accepted p → RowsFit v s (mid_of 2 (length d - 2) d)
+  all_fit d {p} f = let m = message in (m.0, m.1.is, body_fits d m.1 {p = p} f)
 
-  module _ (n : raw_row (rows v) ≡ false) (h : length v % 10 ≡ 0) where
-    -- the bytes of all
-    abbrev pub all_bytes : List ℕ
-    all_bytes = bytes_of 2 k ++ message.0
+  module _ (d : List ℕ) (n : raw_row (rows v) ≡ false) (h : length v % 10 ≡ 0) where
+    pub all-out : {r : Refusal} → room_at d 0 (2 + k) ≡ refused r → Wrote (rows_text v s) d (refused r) (2 + k) d
+    all-out {r} f = rw (all_is v s n h) (no_room d message.1 {r = r} refl f)
 
-    pub all-are : rows_text v s ≡ accepted all_bytes
-    all-are = all_is v s n h ∙ whole_is [] message.1
-
-    pub all-long : 2 + k ≡ length all_bytes
-    all-long = sym (length_whole [] message.1)
-
-    pub all_in : (d ys out : List ℕ) → 2 + k ≤ length d
+    pub all_in : {p : Part} (ys out : List ℕ) → room_at d 0 (2 + k) ≡ accepted p
         → ys ≡ written (joined_in v s) 0 (mid_of 2 (length d - 2) d)
         → out ≡ written (number_text 2 k) 0 (put_mid 2 (length d - 2) d ys)
-        → out ≡ written (rows_text v s) 0 d
-    all_in d ys out f y o =
+        → Wrote (rows_text v s) d (accepted p.next) (2 + k) out
+    all_in {p} ys out f y o =
         let m = message in
-        rw (all_is v s n h) (sym (message_by d m.1 ys out m.1.is (room_in d 0 (2 + k) (omega arith)) y o).leaves)
+        rw (all_is v s n h) (wrote d m.1 refl (message_by d m.1 {p = p} ys out m.1.is f y o))

@@ -2,13 +2,13 @@
 // the three kinds that are opened. A refusal changes no byte.
 #![tactic(auto)]
 
-ghost use Rattle.std.specs.Prelude.{[], ◌∷◌, ◌++◌, ◌≡◌, ◌+◌, ◌^◌, ◌<◌, ◌≤◌, length};
+ghost use Rattle.std.specs.Prelude.{[], ◌∷◌, ◌++◌, ◌≡◌, ◌+◌, ◌<◌, ◌≤◌, length};
 ghost use Rattle.field.specs.Fields.{sized};
 ghost use Rattle.field.specs.Standing.{field_bytes};
 ghost use Rattle.read_ext.specs.Kinds.{is_raw};
 ghost use Rattle.refusal.specs.Answers.{giving, then, as_answer};
 ghost use Rattle.registry.specs.Extensions.{max_fragment_length_ext};
-ghost use Rattle.wire.specs.Numbers.{bytes_in, bytes_of};
+ghost use Rattle.wire.specs.Numbers.{bytes_of};
 ghost use Rattle.wire.specs.Puts.{put, room, written};
 ghost use Rattle.write_rules.specs.JoinTexts.{text_length};
 ghost use Rattle.write_rules.specs.MessageTexts.{view_text};
@@ -79,20 +79,14 @@ fn put_list(out: &mut [u8], at: usize, ext_type: u16, list: &[u8])
     let _ = field::gen_length_data(out, at + 4, Width::Two, RuleName::Plain, list);
 }
 
-// Sets the bytes from `at` on to a tag of that width, and the data behind its length.
+// Sets the bytes from `at` on to type, length and data.
 // stays: `let _` drops answers that are known, since there is room; `?` would hand them on.
-fn put_data(out: &mut [u8], at: usize, w: Width, tag: usize, data: &[u8])
-    requires { (tag < 256 ^ bytes_in w) × ((length «data».now < 65536) × (at + (bytes_in w + 2 + length «data».now) ≤ length out.old)) }
-    ensures { out.new ≡ put out.old at (bytes_of (bytes_in w) tag ++ field_bytes (sized 2) «data».now) }
+fn put_data(out: &mut [u8], at: usize, ext_type: u16, data: &[u8])
+    requires { (length «data».now < 65536) × (at + (4 + length «data».now) ≤ length out.old) }
+    ensures { out.new ≡ put out.old at (bytes_of 2 ext_type ++ field_bytes (sized 2) «data».now) }
 {
-    let _ = wire::number::gen_be(out, at, w, tag);
-    let _ = field::gen_length_data(
-        out,
-        at + wire::number::width_bytes(w),
-        Width::Two,
-        RuleName::Plain,
-        data,
-    );
+    let _ = wire::number::gen_be(out, at, Width::Two, ext_type as usize);
+    let _ = field::gen_length_data(out, at + 2, Width::Two, RuleName::Plain, data);
 }
 
 // Writes an extension at a place, handed over as its type and its content: NotYetImplemented,
@@ -111,7 +105,7 @@ pub(crate) fn gen_at(
     if read_ext::inner_length(ext_type as usize) == 2 {
         put_list(out, at, ext_type, content);
     } else {
-        put_data(out, at, Width::Two, ext_type as usize, content);
+        put_data(out, at, ext_type, content);
     }
     Ok(p.next)
 }
@@ -175,6 +169,7 @@ pub fn gen_tls_extension(m: TlsExtension, i: &[u8], out: &mut [u8]) -> Result<us
 
 // Writes an entry of a list of server names: its type, and the name behind its length. BadLength
 // over 65,535 bytes, then NoRoom; with NoRoom the length that the entry needs is told.
+// stays: `let _` drops answers that are known, since there is room; `?` would hand them on.
 pub fn gen_server_name(name_type: u8, name: &[u8], out: &mut [u8]) -> TextAnswer
     ensures answer_value { as_answer result.answer ≡ room (name_text name_type name.now) 0 out.old }
     ensures len_value { result.len ≡ text_length (name_text name_type name.now) }
@@ -183,9 +178,19 @@ pub fn gen_server_name(name_type: u8, name: &[u8], out: &mut [u8]) -> TextAnswer
     if !field::may_follow(Width::Two, RuleName::Plain, name.len()) {
         return TextAnswer::refused(Reason::BadLength);
     }
-    write_rules::gen_text(
-        out,
-        3 + name.len(),
-        |out| put_data(out, 0, Width::One, name_type as usize, name),
-    )
+    let len = 3 + name.len();
+    match wire::output::room_for(out, 0, len) {
+        Err(r) => TextAnswer {
+            answer: Err(r),
+            len,
+        },
+        Ok(p) => {
+            let _ = wire::number::gen_be(out, 0, Width::One, name_type as usize);
+            let _ = field::gen_length_data(out, 1, Width::Two, RuleName::Plain, name);
+            TextAnswer {
+                answer: Ok(p.next),
+                len,
+            }
+        }
+    }
 }

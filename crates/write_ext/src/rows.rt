@@ -2,8 +2,8 @@
 // type (2), and where its content begins (4) and how many bytes it has (4) in the bytes lent with
 // the rows, as the exports tell an extension that was read. No row is trusted: what it names is
 // looked at before anything is written.
-ghost use Rattle.std.specs.Prelude.{false, ◌≡◌, ◌+◌, ◌%◌, ◌≤◌, length};
-ghost use Rattle.refusal.specs.Answers.{Answer, giving, as_answer};
+ghost use Rattle.std.specs.Prelude.{false, ◌≡◌, length};
+ghost use Rattle.refusal.specs.Answers.{giving, as_answer};
 ghost use Rattle.wire.specs.Puts.{room, written};
 ghost use Rattle.write_rules.specs.JoinTexts.{text_length};
 ghost use Rattle.write_ext.specs.ExtTexts.{joined_in, raw_row, row_from, row_text, rows, rows_text, RowsFit};
@@ -105,19 +105,11 @@ fn put_rows(values: &[u8], bytes: &[u8], out: &mut [u8])
     }
 }
 
-// The length of all extensions and they behind it, from the front of the output.
-fn put_behind_length(values: &[u8], bytes: &[u8], n: usize, out: &mut [u8])
-    requires { (raw_row (rows values.now) ≡ false) × ((length values.now % 10 ≡ 0) × ((giving length (joined_in values.now bytes.now) ≡ Answer.accepted n) × (2 + n ≤ length out.old))) }
-    ensures { out.new ≡ written (rows_text values.now bytes.now) 0 out.old }
-{
-    put_rows(values, bytes, &mut out[2..]);
-    let _ = wire::number::gen_be(out, 0, Width::Two, n);
-}
-
 // Writes a list of extensions behind its length of two bytes: NotYetImplemented where a row of
 // another type is anywhere; BadLength for bytes behind the last row, content that lies outside the
 // bytes, is not of its kind or too long, and over 65,535 bytes in all; then NoRoom. With NoRoom the
 // length that the list needs is told. A refusal changes no byte.
+// stays: `let _` drops an answer that is known, since there is room; `?` would hand it on.
 pub fn gen_tls_extensions(values: &[u8], bytes: &[u8], out: &mut [u8]) -> TextAnswer
     ensures answer_value { as_answer result.answer ≡ room (rows_text values.now bytes.now) 0 out.old }
     ensures len_value { result.len ≡ text_length (rows_text values.now bytes.now) }
@@ -132,5 +124,19 @@ pub fn gen_tls_extensions(values: &[u8], bytes: &[u8], out: &mut [u8]) -> TextAn
     let Ok(n) = rows_length(values, bytes) else {
         return TextAnswer::refused(Reason::BadLength);
     };
-    write_rules::gen_text(out, 2 + n, |out| put_behind_length(values, bytes, n, out))
+    let len = 2 + n;
+    match wire::output::room_for(out, 0, len) {
+        Err(r) => TextAnswer {
+            answer: Err(r),
+            len,
+        },
+        Ok(p) => {
+            put_rows(values, bytes, &mut out[2..]);
+            let _ = wire::number::gen_be(out, 0, Width::Two, n);
+            TextAnswer {
+                answer: Ok(p.next),
+                len,
+            }
+        }
+    }
 }

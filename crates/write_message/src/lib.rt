@@ -1,5 +1,5 @@
 // A handshake message, written: each kind that is, by its own writer.
-#![tactic(auto)]
+#![tactic(auto, unfolding(crate::specs::Written::handshake_text))]
 
 ghost use Rattle.std.specs.Prelude.{◌≡◌};
 ghost use Rattle.wire.specs.Puts.{room, written};

@@ -2,11 +2,10 @@
 -- limit of the raw one, as that of Finished (RULES 7.5), is what a message's length can hold:
 -- `head_text`.
 use Rattle.std.specs.Prelude.{◌∷◌}
-use Rattle.refusal.specs.{ℕ, List, [], Answer, accepted, refused, unplaced, BadLength}
+use Rattle.refusal.specs.{ℕ, List, [], Answer, accepted, refused, unplaced, BadLength, MayBe, Some, None}
 use Rattle.wire.specs.{if_some, lookup}
 use Rattle.field.specs.{sized, field_text}
 use Rattle.write_rules.specs.{view_text, sized_text}
-use Rattle.std.specs.Prelude.{Option, Some, None}
 use Rattle.write_others.specs.declared.Form.{Form}
 use Rattle.write_others.specs.declared.Form.TheVariants.{Raw, DiffieHellman, EllipticCurve}
 use Rattle.message.specs.{TlsClientKeyExchangeContents, Dh, Ecdh, Unknown, raw_exchange, dh_exchange, ecdh_exchange}
@@ -27,6 +26,6 @@ part_text Raw p = accepted p
 part_text DiffieHellman p = field_text (sized 2) p
 part_text EllipticCurve p = field_text (sized 1) p
 
-abbrev pub told_text : Option Form → List ℕ → Answer (List ℕ)
+abbrev pub told_text : MayBe Form → List ℕ → Answer (List ℕ)
 told_text (Some form) p = part_text form p
 told_text None p = refused (unplaced BadLength)

@@ -50,9 +50,24 @@ fn gen_whole(msg_type: u8, part: &[u8], out: &mut [u8]) -> TextAnswer
     ensures len_value { result.len ≡ text_length (message_text (head_text msg_type) (Answer.accepted part.now)) }
     ensures out_after { out.new ≡ written (message_text (head_text msg_type) (Answer.accepted part.now)) 0 out.old }
 {
-    write_rules::gen_message(out, msg_type, part.len(), |body| {
-        let _ = wire::output::gen_bytes(body, 0, part);
-    })
+    if !wire::number::width_holds(Width::Three, part.len()) {
+        return TextAnswer::refused(Reason::BadLength);
+    }
+    let len = 4 + part.len();
+    match wire::output::room_for(out, 0, len) {
+        Err(r) => TextAnswer {
+            answer: Err(r),
+            len,
+        },
+        Ok(p) => {
+            let _ = wire::output::gen_bytes(&mut out[4..], 0, part);
+            let _ = write_rules::gen_head(out, msg_type, part.len());
+            TextAnswer {
+                answer: Ok(p.next),
+                len,
+            }
+        }
+    }
 }
 
 // A message whose body is the part behind its length.
@@ -67,9 +82,21 @@ fn gen_sized(msg_type: u8, w: Width, part: &[u8], out: &mut [u8]) -> TextAnswer
         return TextAnswer::refused(Reason::BadLength);
     }
     let n = wire::number::width_bytes(w) + part.len();
-    write_rules::gen_message(out, msg_type, n, |body| {
-        let _ = field::gen_length_data(body, 0, w, RuleName::Plain, part);
-    })
+    let len = 4 + n;
+    match wire::output::room_for(out, 0, len) {
+        Err(r) => TextAnswer {
+            answer: Err(r),
+            len,
+        },
+        Ok(place) => {
+            let _ = field::gen_length_data(&mut out[4..], 0, w, RuleName::Plain, part);
+            let _ = write_rules::gen_head(out, msg_type, n);
+            TextAnswer {
+                answer: Ok(place.next),
+                len,
+            }
+        }
+    }
 }
 
 // A message whose body is the part in that form.

@@ -1,13 +1,18 @@
--- A hello whose parts are handed over apart: each is one of its field, and the text is the fields
--- joined. Assumes nothing.
-use Prim.Native.Nat.{ℕ}
+-- A hello whose parts are handed over apart: each is one of its field, the text is the fields
+-- joined, and the message is put in where there is room for it. Assumes nothing.
+use Prim.Native.Nat.{ℕ, ◌+◌, ◌-◌, ◌<◌, ◌≤◌}
 use mathlib.Core.Path.{◌≡◌, refl, ap, ◌∙◌}
 use mathlib.Core.List.{List, [], ◌∷◌, ◌++◌, append_assoc}
 use mathlib.Core.Bool.{Bool, true, false, ◌&&◌}
+use native.Mathlib.Omega.{arith}
+use borrow.Rule.Slice.PartMut.{put_mid, mid_of}
 use lib.ListN.{length}
 use Rattle.refusal.specs.Answers.{Answer, accepted, refused}
 use Rattle.refusal.specs.Refusals.{unplaced}
 use Rattle.refusal.specs.declared.Reason.TheVariants.{BadLength}
+use Rattle.wire.specs.Puts.{put, room_at, written}
+use Rattle.wire.specs.declared.view.Part.{Part}
+use Rattle.wire.proofs.Parts.{room_fits}
 use Rattle.field.specs.Standing.{field_bytes, Obeys}
 use Rattle.field.specs.Texts.{allowed}
 use Rattle.field.proofs.Texts.{both_true, obeys}
@@ -16,7 +21,7 @@ use Rattle.grammar.specs.Splits.{AllObey, join}
 use Rattle.grammar.specs.Hellos.{extensions}
 use Rattle.write_rules.specs.JoinTexts.{may_join, join_bytes, join_text}
 use Rattle.write_rules.specs.MessageTexts.{head_text, message_text}
-use Rattle.write_rules.proofs.Messages.{Wrote, told_refused, message_not}
+use Rattle.write_rules.proofs.Messages.{Wrote, Message, told_refused, message_not, short_head, body_fits, message_in, wrote}
 
 -- the fields one behind the other, and the extensions behind the last
 abbrev pub in_row : (rs : List Row) → Parts rs → List ℕ → List ℕ
@@ -64,3 +69,28 @@ module _ (rs : List Row) (ps : Parts rs) (e : List ℕ) where
       → a ≡ refused (unplaced BadLength) → n ≡ 0
       → Wrote (message_text (head_text msgType) (join_text rs ps e)) d a n d
   join_refused msgType d m p q = told_refused d (message_not (head_text msgType) (join_not m)) p q
+
+  -- and of those that may, its body of n bytes
+  pub join_message : (msgType n : ℕ) → may_join rs ps e ≡ true → n ≡ length (join_bytes rs ps e) → n < 16777216
+      → Message (head_text msgType) 4 (join_text rs ps e) (join_bytes rs ps e) n
+  join_message msgType n m l h = short_head msgType (join_may m) l h
+
+-- there is room for it
+pub record Ready (msgType : ℕ) (rs : List Row) (ps : Parts rs) (e d : List ℕ) (n : ℕ) (p : Part) : Type 0 where
+  pub may : may_join rs ps e ≡ true
+  pub message : Message (head_text msgType) 4 (join_text rs ps e) (join_bytes rs ps e) n
+  pub place : room_at d 0 (4 + n) ≡ accepted p
+
+-- the fields fit behind the head's place, and both are put in
+module _ {msgType : ℕ} {rs : List Row} {ps : Parts rs} {e d : List ℕ} {n : ℕ} {p : Part}
+    (r : Ready msgType rs ps e d n p) where
+  pub behind_head : 4 ≤ length d
+  behind_head = omega (arith, (room_fits d 0 (4 + n) r.place).inside)
+
+  pub fields_fit : (may_join rs ps e ≡ true) × (length (join_bytes rs ps e) ≤ length (mid_of 4 (length d - 4) d))
+  fields_fit = (r.may, body_fits d r.message r.place)
+
+  pub join_in : {ys out : List ℕ} → ys ≡ put (mid_of 4 (length d - 4) d) 0 (join_bytes rs ps e)
+      → out ≡ written (head_text msgType n) 0 (put_mid 4 (length d - 4) d ys)
+      → Wrote (message_text (head_text msgType) (join_text rs ps e)) d (accepted p.next) (4 + n) out
+  join_in {ys} {out} y o = wrote d r.message refl (message_in d r.message ys out r.place y o)

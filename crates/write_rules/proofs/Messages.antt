@@ -45,16 +45,16 @@ told_refused d e p q =
     (p ∙ sym c.says, (rw e q, sym c.leaves))
 
 -- a text of n bytes: there is no room for it, or it is put in
-module _ (bs d : List ℕ) {n : ℕ} (e : n ≡ length bs) where
-  pub text_short : {r : Refusal} → room_at d 0 n ≡ refused r
-      → (refused r ≡ room (accepted bs) 0 d) × (d ≡ written (accepted bs) 0 d)
-  text_short {r} q = ensured (text_out bs 0 d {r = r} refl (rw e at q))
+module _ (d : List ℕ) {t : Answer (List ℕ)} {bs : List ℕ} {n : ℕ} (i : t ≡ accepted bs) (e : n ≡ length bs) where
+  pub text_short : {r : Refusal} → room_at d 0 n ≡ refused r → Wrote t d (refused r) n d
+  text_short {r} q =
+      let c = text_out bs 0 d {r = r} i (rw e at q) in
+      (sym c.says, (rw i e, sym c.leaves))
 
-  pub text_put : {p : Part} {d' : List ℕ} → room_at d 0 n ≡ accepted p → d' ≡ put d 0 bs
-      → (accepted p.next ≡ room (accepted bs) 0 d) × (d' ≡ written (accepted bs) 0 d)
+  pub text_put : {p : Part} {d' : List ℕ} → room_at d 0 n ≡ accepted p → d' ≡ put d 0 bs → Wrote t d (accepted p.next) n d'
   text_put {p} q y =
-      let c = text_in bs 0 d {p = p} refl (rw e at q) in
-      (sym c.says, y ∙ sym c.leaves)
+      let c = text_in bs 0 d {p = p} i (rw e at q) in
+      (sym c.says, (rw i e, y ∙ sym c.leaves))
 
 -- type and length
 abbrev pub head_bytes : ℕ → ℕ → List ℕ
@@ -223,17 +223,6 @@ module _ {head : ℕ → Answer (List ℕ)} {m : ℕ} {body : Answer (List ℕ)}
       let c = message_out {r = r} q in
       (sym c.says, (e ∙ sym long_whole, sym c.leaves))
 
--- what a writer ensures that hands its text of k bytes over to `gen_text`, or its body to
--- `gen_message`, to be put in as P says
-module _ (d : List ℕ) {t : Answer (List ℕ)} {bs d' : List ℕ} {k n : ℕ} {a : Answer ℕ} {P : List ℕ → Type 0}
-    (e : t ≡ accepted bs) (l : k ≡ length bs) where
-  pub by_text : ((x : List ℕ) → k ≡ length x → P x → a ≡ room (accepted x) 0 d) → n ≡ k
-      → ((x : List ℕ) → k ≡ length x → P x → d' ≡ written (accepted x) 0 d) → P bs → Wrote t d a n d'
-  by_text f g h p = rw e (f bs l p, (g ∙ l, h bs l p))
-
-  pub by_message : (msgType : ℕ)
-      → ((x : List ℕ) → k ≡ length x → P x → a ≡ room (message_text (head_text msgType) (accepted x)) 0 d)
-      → ((x : List ℕ) → k ≡ length x → n ≡ text_length (message_text (head_text msgType) (accepted x)))
-      → ((x : List ℕ) → k ≡ length x → P x → d' ≡ written (message_text (head_text msgType) (accepted x)) 0 d)
-      → P bs → Wrote (message_text (head_text msgType) t) d a n d'
-  by_message msgType f g h p = rw e (f bs l p, (g bs l, h bs l p))
+  pub wrote : {a k : ℕ} {out : List ℕ} → k ≡ m + n → Came (message_text head body) 0 d (accepted a) out
+      → Wrote (message_text head body) d (accepted a) k out
+  wrote e c = (sym c.says, (e ∙ sym long_whole, sym c.leaves))

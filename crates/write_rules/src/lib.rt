@@ -1,15 +1,13 @@
-// What every writer shares: what came of a text, whether a part lies in the bytes lent, a message's
-// head, and the frame that looks for room before a text or a message is put in.
+// What every writer shares: what came of a text, whether a part lies in the bytes lent, and a
+// message's head.
 #![tactic(auto)]
 
-ghost use Rattle.std.specs.Prelude.{ℕ, List, false, ◌≡◌, length};
+ghost use Rattle.std.specs.Prelude.{false, ◌≡◌};
 ghost use Rattle.grammar.specs.Grammars.{How};
 ghost use Rattle.wire.specs.Parts.{lies_in};
 ghost use Rattle.wire.specs.Puts.{room, written};
-ghost use Rattle.write_rules.specs.Calls.{Puts, Takes};
 ghost use Rattle.write_rules.specs.HelloTexts.{lies};
-ghost use Rattle.write_rules.specs.JoinTexts.{text_length};
-ghost use Rattle.write_rules.specs.MessageTexts.{head_text, message_text};
+ghost use Rattle.write_rules.specs.MessageTexts.{head_text};
 ghost use Rattle.refusal.specs.Answers.{Answer, as_answer};
 ghost use Rattle.refusal.specs.Refusals.{unplaced};
 
@@ -66,63 +64,5 @@ pub fn gen_head(out: &mut [u8], msg_type: u8, n: usize) -> Result<usize, Refusal
         Ok(p.next)
     } else {
         Err(refusal::unplaced(Reason::BadLength))
-    }
-}
-
-// Writes a text of `n` bytes, which `put` puts in from the front of the output, or answers NoRoom;
-// either way the length is told. A refusal changes no byte.
-pub fn gen_text<F: FnOnce(&mut [u8])>(out: &mut [u8], n: usize, put: F) -> TextAnswer
-    requires { Takes F.FnOnce put n }
-    ensures answer_value { (bs : List ℕ) → n ≡ length bs → Puts F.FnOnce put bs → as_answer result.answer ≡ room (Answer.accepted bs) 0 out.old }
-    ensures len_value { result.len ≡ n }
-    ensures out_after { (bs : List ℕ) → n ≡ length bs → Puts F.FnOnce put bs → out.new ≡ written (Answer.accepted bs) 0 out.old }
-{
-    match wire::output::room_for(out, 0, n) {
-        Err(r) => TextAnswer {
-            answer: Err(r),
-            len: n,
-        },
-        Ok(p) => {
-            put(out);
-            TextAnswer {
-                answer: Ok(p.next),
-                len: n,
-            }
-        }
-    }
-}
-
-// Writes a message round a body of `n` bytes, which `put` puts in from the front of the part behind
-// the head: BadLength, then NoRoom, with which the message's length is told. A refusal changes no
-// byte.
-// stays: not by `gen_text`, since a closure round `put` would have to state what `put` may do.
-pub fn gen_message<F: FnOnce(&mut [u8])>(
-    out: &mut [u8],
-    msg_type: u8,
-    n: usize,
-    put: F,
-) -> TextAnswer
-    requires { Takes F.FnOnce put n }
-    ensures answer_value { (bs : List ℕ) → n ≡ length bs → Puts F.FnOnce put bs → as_answer result.answer ≡ room (message_text (head_text msg_type) (Answer.accepted bs)) 0 out.old }
-    ensures len_value { (bs : List ℕ) → n ≡ length bs → result.len ≡ text_length (message_text (head_text msg_type) (Answer.accepted bs)) }
-    ensures out_after { (bs : List ℕ) → n ≡ length bs → Puts F.FnOnce put bs → out.new ≡ written (message_text (head_text msg_type) (Answer.accepted bs)) 0 out.old }
-{
-    if !wire::number::width_holds(Width::Three, n) {
-        return TextAnswer::refused(Reason::BadLength);
-    }
-    let len = 4 + n;
-    match wire::output::room_for(out, 0, len) {
-        Err(r) => TextAnswer {
-            answer: Err(r),
-            len,
-        },
-        Ok(p) => {
-            put(&mut out[4..]);
-            let _ = gen_head(out, msg_type, n);
-            TextAnswer {
-                answer: Ok(p.next),
-                len,
-            }
-        }
     }
 }

@@ -13,9 +13,11 @@ use Rattle.field.proofs.Rules.{unless_none}
 use Rattle.read_server.specs.Server.{server}
 use Rattle.read_server.specs.declared.tlsv12.TlsServerHelloContents.{TlsServerHelloContents}
 use Rattle.write_rules.specs.HelloTexts.{hello_bytes}
-use Rattle.write_rules.specs.JoinTexts.{may_join, join_bytes}
+use Rattle.write_rules.specs.JoinTexts.{may_join, join_bytes, join_text}
+use Rattle.write_rules.specs.MessageTexts.{head_text}
 use Rattle.write_rules.proofs.Hellos.{Obeyed}
-use Rattle.write_rules.proofs.Joins.{Joined, joined, in_row, row_join}
+use Rattle.write_rules.proofs.Joins.{Joined, joined, in_row, row_join, join_message}
+use Rattle.write_rules.proofs.Messages.{Message}
 use Rattle.write_server.specs.Slices.{server_rows, server_parts}
 
 pub record ServerBounds (i e : List ℕ) : Type 0 where
@@ -45,6 +47,13 @@ module _ (random id ext : List ℕ) {t : Bool} (w : (v c k : ℕ) → t ≡ may_
 
   pub may_length : (v c k : ℕ) → 40 + length id + length ext ≡ length (join_bytes server_rows (server_parts v random id c k) ext)
   may_length v c k = sym (parts_length v random id c k ext (joined _ _ _ (may_write v c k)))
+
+  -- the message round them
+  pub may_message : (v c k : ℕ) → Message (head_text 0x02) 4 (join_text server_rows (server_parts v random id c k) ext)
+      (join_bytes server_rows (server_parts v random id c k) ext) (40 + length id + length ext)
+  may_message v c k =
+      join_message server_rows (server_parts v random id c k) ext 0x02 _ (may_write v c k) (may_length v c k)
+      (omega (arith, may_bounds))
 
 module _ (s : List ℕ) (m : TlsServerHelloContents) (h : Obeyed (server true) s m) where
   pub server_length : length (hello_bytes (server true) s m)

@@ -56,6 +56,7 @@ fn put_fields(
 // Writes a ServerHello whose parts are handed over apart as a message: BadLength, then NoRoom. A
 // refusal changes no byte; with NoRoom the length that the message needs is told.
 // stays: the parts come one by one, as `norrabist_gen_tls_serverhello` has them of C.
+// stays: `let _` drops an answer that is known, since there is room; `?` would hand it on.
 pub fn gen_serverhello(
     version: u16,
     random: &[u8],
@@ -73,12 +74,21 @@ pub fn gen_serverhello(
         return TextAnswer::refused(Reason::BadLength);
     }
     let n = 40 + id.len() + ext.len();
-    write_rules::gen_message(
-        out,
-        registry::handshake::SERVER_HELLO,
-        n,
-        |body| put_fields(version, random, id, cipher, compression, ext, body),
-    )
+    let len = 4 + n;
+    match wire::output::room_for(out, 0, len) {
+        Err(r) => TextAnswer {
+            answer: Err(r),
+            len,
+        },
+        Ok(p) => {
+            put_fields(version, random, id, cipher, compression, ext, &mut out[4..]);
+            let _ = write_rules::gen_head(out, registry::handshake::SERVER_HELLO, n);
+            TextAnswer {
+                answer: Ok(p.next),
+                len,
+            }
+        }
+    }
 }
 
 // Whether all that the hello names lies in the bytes lent.

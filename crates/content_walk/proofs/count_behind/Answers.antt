@@ -1,7 +1,7 @@
 -- `content_walk::count_behind` meets its contract: none where the content is one message, else a
 -- step tells of the message that is found where it is asked. Assumes nothing.
-use mathlib.Core.Path.{sym, ◌∙◌}
-use Rattle.std.proofs.Common.{rules}
+use mathlib.Core.Path.{refl, sym, ◌∙◌}
+use native.Mathlib.Omega.{arith}
 use Rattle.list.specs.Stopping.{end_of}
 use Rattle.list.proofs.Stepping.{onward, counted, tells}
 use Rattle.content_walk.specs.ContentWalks.{past_at}
@@ -17,18 +17,18 @@ returns-then-is_single c =
       end_value = rw z;
     }
 
-pub count-requires-clause-moves_on : goal.count-requires-clause-moves_on
+pub invariant_of-count : goal.invariant_of-count
 unfolding past_at
-count-requires-clause-moves_on c =
+invariant_of-count c =
     let f = sym c.is_single.ensures ∙ c.if-is_single.false in
-    λ at next b s. onward (by_messages c.args.record_type c.args.s.now f) (search rules)
+    record { onward = λ at next b e. onward (by_messages c.args.record_type c.args.s.now f) (tells (λ n. refl)) e }
 
 pub returns : goal.returns
 unfolding past_at
 returns c =
     let f = sym c.is_single.ensures ∙ c.if-is_single.false in
-    let n = counted (by_messages _ _ f) c.count.ensures.1 (tells (λ at r b s. search rules)) in
+    let n = counted (by_messages c.args.record_type c.args.s.now f) (tells (λ n. refl)) c.args.from (omega arith) in
     record {
-      count_value = rw f n.0;
-      end_value = rw f n.1;
+      count_value = c.count.ensures.count_value ∙ rw f n.0;
+      end_value = c.count.ensures.end_value ∙ rw f n.1;
     }

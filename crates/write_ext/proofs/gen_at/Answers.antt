@@ -1,7 +1,6 @@
 -- `write_ext::gen_at` meets its contract: there is no text, or no room, or it is put in. Assumes
 -- nothing.
 use mathlib.Core.Path.{◌≡◌, sym, ◌∙◌}
-use native.Mathlib.Omega.{arith}
 use Rattle.refusal.specs.Answers.{accepted, as_answer}
 use Rattle.refusal.proofs.Told.{case, hands_on}
 use Rattle.wire.specs.Puts.{room_at}
@@ -29,7 +28,7 @@ pub put_data-requires : goal.put_data-requires
 put_data-requires c =
     let text : Made c.args.ext_type c.args.content.now c.in_ok-n.n = made c.args.ext_type c.args.content.now (case as_answer c.extension_length.ensures c.in_ok-n.was) in
     let room : room_at c.args.out.now c.args.at c.in_ok-n.n ≡ accepted c.in_ok-p.p = case as_answer c.room_for.ensures c.in_ok-p.was in
-    (omega arith, data_fits (text) _ _ (room))
+    data_fits (text) _ _ (room)
 
 pub returns-in_err-p : goal.returns-in_err-p
 returns-in_err-p c =

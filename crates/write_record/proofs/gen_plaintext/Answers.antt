@@ -1,13 +1,12 @@
--- `write_record::gen_plaintext` meets its contract: the content is too large, or `gen_text` says
--- what came of the record. Assumes nothing.
-use mathlib.Core.Path.{◌≡◌, sym, ◌∙◌}
-use mathlib.Core.Bool.{true}
-use lib.ListN.{length}
-use Rattle.std.proofs.Common.{rules}
-use Rattle.field.specs.Texts.{allowed}
-use Rattle.record.specs.Records.{fragment}
-use Rattle.write_rules.proofs.Messages.{by_text, told_refused}
-use Rattle.write_record.proofs.Records.{record_not, record_may, record_long}
+-- `write_record::gen_plaintext` meets its contract: the content is too large, or there is no
+-- room, or the record is put in. Assumes nothing.
+use mathlib.Core.Path.{sym, ◌∙◌}
+use native.Mathlib.Omega.{arith}
+use Rattle.refusal.specs.Answers.{as_answer}
+use Rattle.refusal.proofs.Told.{case}
+use Rattle.wire.proofs.Parts.{room_fits}
+use Rattle.write_rules.proofs.Messages.{told_refused, text_short, text_put}
+use Rattle.write_record.proofs.Records.{record_not, record_may, record_long, record_put}
 use Rattle.write_record.proofs.gen_plaintext.Goals as goal
 
 pub returns-then-not-may_follow : goal.returns-then-not-may_follow
@@ -20,16 +19,23 @@ returns-then-not-may_follow c =
       out_after = o.1.1;
     }
 
-pub gen_text-requires : goal.gen_text-requires
-gen_text-requires c =
-    let m : allowed fragment (length c.args.msg.now) ≡ true = sym c.may_follow.ensures ∙ c.if-not-may_follow.false in
-    λ d h p e. search rules
+pub returns-in-Err : goal.returns-in-Err
+returns-in-Err c =
+    let i = record_may c.args.hdr _ (sym c.may_follow.ensures ∙ c.if-not-may_follow.false) in
+    let o = text_short _ i (record_long c.args.hdr _) (case as_answer c.room_for.ensures c.in-Err.is) in
+    record {
+      answer_value = o.0;
+      len_value = o.1.0;
+      out_after = o.1.1;
+    }
 
-pub returns : goal.returns
-returns c =
-    let o = by_text _ (record_may c.args.hdr _ (sym c.may_follow.ensures ∙ c.if-not-may_follow.false)) (record_long c.args.hdr _)
-    c.gen_text.ensures.answer_value c.gen_text.ensures.len_value c.gen_text.ensures.out_after
-    (λ d d' h r. search rules) in
+pub returns-in-Ok : goal.returns-in-Ok
+returns-in-Ok c =
+    let m = sym c.may_follow.ensures ∙ c.if-not-may_follow.false in
+    let q = case as_answer c.room_for.ensures c.in-Ok.is in
+    let y = record_put c.args.hdr _ c.args.out.now _ _ _ m (omega (arith, (room_fits _ _ _ q).inside)) (omega arith) (omega arith)
+    c.gen_be.ensures.out_after c.gen_be-in-Ok.ensures.out_after c.gen_length_data.ensures.out_after in
+    let o = text_put _ (record_may c.args.hdr _ m) (record_long c.args.hdr _) q y in
     record {
       answer_value = o.0;
       len_value = o.1.0;

@@ -9,4 +9,4 @@ use Rattle.norrabist_c.proofs.hellos.draft18_told.Goals as goal
 pub overflow_cast-result : goal.overflow_cast-result
 overflow_cast-result c =
     let e = case as_answer c.parse_tls_server_hello_tlsv13draft18.ensures.result_value c.in-Ok.is in
-    omega (arith, draft18-ext-len _ (λ i. (c.type_inv.i i).fits) _ e)
+    rw c.opt_told-ext.ensures (omega (arith, draft18-ext-len _ (λ i. (c.type_inv.i i).fits) _ e))

@@ -9,4 +9,4 @@ use Rattle.norrabist_c.proofs.hellos.norrabist_parse_tls_handshake_msg_hello_ret
 pub overflow_cast-result : goal.overflow_cast-result
 overflow_cast-result c =
     let e = case as_answer c.parse_tls_hello_retry_request.ensures c.in-Ok.is in
-    omega (arith, retry-ext-len _ (λ i. (c.type_inv.i i).fits) _ e)
+    rw c.opt_told-ext.ensures (omega (arith, retry-ext-len _ (λ i. (c.type_inv.i i).fits) _ e))

@@ -9,7 +9,7 @@ use Rattle.norrabist_c.proofs.hellos.server_told.Goals as goal
 pub overflow_cast-result : goal.overflow_cast-result
 overflow_cast-result c =
     let e = case as_answer c.parse_tls_server_hello_tlsv12.ensures.result_value c.in-Ok.is in
-    omega (arith, server-ext-len _ (λ i. (c.type_inv.i i).fits) _ c.args.has_ext e)
+    rw c.opt_told-ext.ensures (omega (arith, server-ext-len _ (λ i. (c.type_inv.i i).fits) _ c.args.has_ext e))
 
 pub overflow_cast-result-in-Ok : goal.overflow_cast-result-in-Ok
 overflow_cast-result-in-Ok c =
