@@ -1,11 +1,11 @@
 // The messages of a record's content, by the type of the record: the one at a place, the walk over
 // them, and how many there are.
-#![tactic(auto, using(envelope::proofs::Heads::met_no_head, envelope::proofs::Heads::met_no_body, envelope::proofs::Heads::met_got, crate::proofs::Found::alert_is, crate::proofs::Found::cipher_spec_is), unfolding(content::specs::Contents::application_data, list::specs::Stopping::end_of, record_walk::specs::Walks::met_head, crate::specs::ContentWalks::alert_found, crate::specs::ContentWalks::application_found, crate::specs::ContentWalks::cipher_spec_found, crate::specs::ContentWalks::found_at, crate::specs::ContentWalks::handshake_found, crate::specs::ContentWalks::heartbeat_found, crate::specs::ContentWalks::moved, crate::specs::ContentWalks::next_message, crate::specs::ContentWalks::past_at))]
+#![tactic(auto, using(envelope::proofs::Heads::met_no_head, envelope::proofs::Heads::met_no_body, envelope::proofs::Heads::met_got, crate::proofs::Found::alert_is), unfolding(content::specs::Contents::application_data, list::specs::Stopping::end_of, record_walk::specs::Walks::met_head, crate::specs::ContentWalks::alert_found, crate::specs::ContentWalks::application_found, crate::specs::ContentWalks::cipher_spec_found, crate::specs::ContentWalks::found_at, crate::specs::ContentWalks::handshake_found, crate::specs::ContentWalks::heartbeat_found, crate::specs::ContentWalks::moved, crate::specs::ContentWalks::next_message, crate::specs::ContentWalks::past_at))]
 
 ghost use Rattle.std.specs.Prelude.{◌≡◌, length};
 ghost use Rattle.list.specs.Stepping.{MovesOn};
 ghost use Rattle.list.specs.Stopping.{end_of};
-ghost use Rattle.refusal.specs.Answers.{as_answer};
+ghost use Rattle.refusal.specs.Answers.{as_answer, giving};
 ghost use Rattle.refusal.specs.Refusals.{refusal};
 ghost use Rattle.refusal.specs.declared.Reason.TheVariants.{NoSuch};
 ghost use Rattle.content_walk.specs.ContentWalks.{alert_found, application_found, cipher_spec_found, found_at, fresh_walk, handshake_found, heartbeat_found, is_single, messages_behind, messages_of, moved, next_message, past_at};
@@ -175,6 +175,15 @@ impl TlsRecordWalk {
     }
 }
 
+// Where the handshake message ends that begins at `at`. It is compiled by itself: its calls within
+// `past_message` would have each step save registers, of a content of any type.
+#[inline(never)]
+fn past_handshake(s: &[u8], at: usize) -> Result<usize, Refusal>
+    ensures { as_answer result ≡ giving (λ x. x.next) (handshake_found s.now at) }
+{
+    Ok(record_walk::meet_tls_message(s, at)?.next)
+}
+
 // Where the message ends that begins at `at`, where it can be opened. The message itself is not
 // handed out.
 pub fn past_message(record_type: u8, s: &[u8], at: usize) -> Result<usize, Refusal>
@@ -182,15 +191,12 @@ pub fn past_message(record_type: u8, s: &[u8], at: usize) -> Result<usize, Refus
 {
     // stays: `message_at` makes each message, which a walk that asks for ends is spared.
     match record_type {
-        registry::record::CHANGE_CIPHER_SPEC => {
-            content::change_cipher_spec_at(s, at)?;
-            Ok(at + 1)
-        }
+        registry::record::CHANGE_CIPHER_SPEC => Ok(content::change_cipher_spec_at(s, at)?.next),
         registry::record::ALERT => {
             content::alert_at(s, at)?;
             Ok(at + 2)
         }
-        registry::record::HANDSHAKE => Ok(record_walk::meet_tls_message(s, at)?.next),
+        registry::record::HANDSHAKE => past_handshake(s, at),
         registry::record::APPLICATION_DATA => Ok(s.len()),
         registry::record::HEARTBEAT => {
             content::read_heartbeat(s)?;
