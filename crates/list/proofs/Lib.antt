@@ -1,5 +1,6 @@
 pub mod Walk
 pub mod Stepping
+pub mod AnySteps
 pub mod Stopping
 pub mod Fields
 pub mod Fixed

@@ -2,7 +2,10 @@
 // as its own bytes, without its length.
 #![tactic(auto)]
 
+pub mod any;
 pub mod items;
 pub mod numbers;
 pub mod steps;
 pub mod tagged;
+#[cfg(test)]
+mod tests;

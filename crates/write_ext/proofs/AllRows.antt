@@ -33,7 +33,7 @@ use Rattle.read_ext.specs.Extensions.{number_there}
 use Rattle.read_ext.specs.Splits.{data_bytes, ext_bytes}
 use Rattle.write_rules.specs.MessageTexts.{view_text, message_text}
 use Rattle.write_rules.proofs.Fields.{Left, begin, next}
-use Rattle.write_rules.proofs.Messages.{Wrote, Message, message_not, body_fits, no_room, wrote, message_by}
+use Rattle.write_rules.proofs.Messages.{Wrote, Message, message_not, whole_is, length_whole, body_fits, no_room, wrote, message_by}
 use Rattle.write_ext.specs.ExtTexts.{may_stand, ext_text, join_texts, capped, row_of, row_from, rows, row_text, raw_row}
 use Rattle.write_ext.specs.ExtTexts.{joined_in, rows_text, RowsFit}
 use Rattle.write_ext.specs.declared.rows.Row.{Row}
@@ -51,7 +51,7 @@ failed true a r e = absurd (not_both e refl)
 failed false a r e = (refl, e)
 
 -- what an answer made of another says of it
-giving_accepted : {A B : Type 0} (make : A → B) (x : Answer A) {b : B} → giving make x ≡ accepted b → (a : A)
+pub giving_accepted : {A B : Type 0} (make : A → B) (x : Answer A) {b : B} → giving make x ≡ accepted b → (a : A)
     × (x ≡ accepted a) × (b ≡ make a)
 giving_accepted make (accepted a) {b} e = let d : accepted (make a) ≡ accepted b = e in (a, refl, cc)
 giving_accepted make (refused r) e = absurd (not_both e refl)
@@ -449,7 +449,7 @@ module _ (v s : List ℕ) {k : ℕ} (q : giving length (joined_in v s) ≡ accep
       let g = giving_accepted length (joined_in v s) q in
       omega (arith, g.2, (joined_is v s g.1).1)
 
-  message : (bs : List ℕ) × Message (number_text 2) 2 (joined_in v s) bs k
+  abbrev message : (bs : List ℕ) × Message (number_text 2) 2 (joined_in v s) bs k
   message =
       let g = giving_accepted length (joined_in v s) q in
       let h : k < 65536 = omega (arith, all_short) in (
@@ -466,6 +466,17 @@ module _ (v s : List ℕ) {k : ℕ} (q : giving length (joined_in v s) ≡ accep
   -- there is room for them behind it
   pub all_fit : (d : List ℕ) {p : Part} → room_at d 0 (2 + k) ≡ accepted p → RowsFit v s (mid_of 2 (length d - 2) d)
   all_fit d {p} f = let m = message in (m.0, m.1.is, body_fits d m.1 {p = p} f)
+
+  module _ (n : raw_row (rows v) ≡ false) (h : length v % 10 ≡ 0) where
+    -- the bytes of all
+    abbrev pub all_bytes : List ℕ
+    all_bytes = bytes_of 2 k ++ message.0
+
+    pub all-are : rows_text v s ≡ accepted all_bytes
+    all-are = all_is v s n h ∙ whole_is [] message.1
+
+    pub all-long : 2 + k ≡ length all_bytes
+    all-long = sym (length_whole [] message.1)
 
   module _ (d : List ℕ) (n : raw_row (rows v) ≡ false) (h : length v % 10 ≡ 0) where
     pub all-out : {r : Refusal} → room_at d 0 (2 + k) ≡ refused r → Wrote (rows_text v s) d (refused r) (2 + k) d
