@@ -14,7 +14,8 @@ use Rattle.refusal.proofs.Then.{not_both}
 use Rattle.list.specs.Items.{items_from, place, or_no_such}
 use Rattle.list.specs.Stopping.{end_of}
 use Rattle.list.specs.AnySteps.{Leads, Halts, Skips}
-use Rattle.list.proofs.Walk.{Moves, rest, rest_all, rest_on, rest_end, fuel, first, past_last, got, none}
+use Rattle.list.proofs.Stepping.{accepted_one, refused_one, all_from}
+use Rattle.list.proofs.Walk.{Moves, rest, rest_all, rest_on, rest_end, first, past_last, got, none}
 
 -- one step more
 pub leads_on : (step : ℕ → Result ℕ Refusal → Type 0) (k from to : ℕ) {next : ℕ} → Leads step k from to → to < 2 ^ 64
@@ -28,23 +29,13 @@ pub record Tells {A : Type 0} (step : ℕ → Result ℕ Refusal → Type 0) (fi
   pub on : (at next : ℕ) → at < 2 ^ 64 → step at (Ok next) → (x : A) × (find at ≡ accepted x) × (next ≡ past x)
   pub off : (at : ℕ) (stop : Refusal) → at < 2 ^ 64 → step at (Err stop) → (r : Refusal) × (find at ≡ refused r)
 
-accepted_one : {A : Type 0} (past : A → ℕ) (a : Answer A) {next : ℕ} → accepted next ≡ giving past a
-    → (x : A) × (a ≡ accepted x) × (next ≡ past x)
-accepted_one past (accepted x) {next} e = (x, refl, cc)
-accepted_one past (refused r) e = absurd (not_both refl e)
-
-refused_one : {A : Type 0} (past : A → ℕ) (a : Answer A) {stop : Refusal} → refused stop ≡ giving past a
-    → (r : Refusal) × (a ≡ refused r)
-refused_one past (accepted x) e = absurd (not_both e refl)
-refused_one past (refused r) e = (r, refl)
-
 -- a step tells of what is found where it answers the place past it
 pub tells : {A : Type 0} {step : ℕ → Result ℕ Refusal → Type 0} {find : ℕ → Answer A} {past : A → ℕ}
     → ((at : ℕ) (r : Result ℕ Refusal) → at < 2 ^ 64 → step at r → as_answer r ≡ giving past (find at))
     → Tells step find past
 tells {find = find} {past = past} h = record {
-  on = λ at next b s. accepted_one past (find at) (h at (Ok next) b s);
-  off = λ at stop b s. refused_one past (find at) (h at (Err stop) b s);
+  on = λ at next b s. accepted_one past (find at) (sym (h at (Ok next) b s));
+  off = λ at stop b s. (stop, refused_one past (find at) (sym (h at (Err stop) b s)));
 }
 
 -- so it does where it answers NoSuch for each refusal
@@ -53,27 +44,22 @@ pub or_tells : {A : Type 0} {step : ℕ → Result ℕ Refusal → Type 0} {find
     → Tells step find past
 or_tells {find = find} {past = past} h = record {
   on = λ at next b s.
-      let (x, e, p) = accepted_one past (or_no_such (find at)) (h at (Ok next) b s) in (x, got (find at) e, p);
+      let (x, e, p) = accepted_one past (or_no_such (find at)) (sym (h at (Ok next) b s)) in (x, got (find at) e, p);
   off = λ at stop b s.
-      let (r, e) = refused_one past (or_no_such (find at)) (h at (Err stop) b s) in
-      let y = none (find at) e in
-      (y.0, y.1);
+      let y = none (find at) (refused_one past (or_no_such (find at)) (sym (h at (Err stop) b s))) in (y.0, y.1);
 }
 
 module _ {A : Type 0} {find : ℕ → Answer A} {past : A → ℕ} {n : ℕ} (moves : Moves find past n) where
   -- each step moves on
   pub onward : {at next : ℕ} → accepted next ≡ giving past (find at) → at < next
   onward {at} {next} e =
-      let (x, y, p) = accepted_one past (find at) e in
+      let (x, y, p) = accepted_one past (find at) (sym e) in
       omega (arith, (moves.on at x y).0, p)
 
   pub or_onward : {at next : ℕ} → accepted next ≡ giving past (or_no_such (find at)) → at < next
   or_onward {at} {next} e =
-      let (x, y, p) = accepted_one past (or_no_such (find at)) e in
+      let (x, y, p) = accepted_one past (or_no_such (find at)) (sym e) in
       omega (arith, (moves.on at x (got (find at) y)).0, p)
-
-  pub all_from : (from : ℕ) → items_from n find past from ≡ rest find past n from
-  all_from from = fuel moves n (n - from) from (omega arith) (omega arith)
 
 module _ {A : Type 0} {step : ℕ → Result ℕ Refusal → Type 0} {find : ℕ → Answer A} {past : A → ℕ} {n : ℕ} (moves : Moves find past n) (t : Tells step find past) where
   led : (k from to : ℕ) → Leads step k from to
@@ -127,12 +113,8 @@ module _ {A : Type 0} {step : ℕ → Result ℕ Refusal → Type 0} {find : ℕ
       → ((at : ℕ) (r : Result ℕ Refusal) → at < 2 ^ 64 → step at r → as_answer r ≡ giving past (or_no_such (find at)))
       → refused stop ≡ place k (items_from n find past 0)
   or_missed k {stop} (j, end, l, h) t =
-      let w = t end (Err stop) h.below h.halts in
-      let (r, e) = refused_one past (or_no_such (find end)) w in
-      let y = none (find end) e in
-      let q : ◌≡◌ {A = Answer ℕ} (refused stop) (refused r) = rw e at w in
-      let d : stop ≡ r = cc in
-      ap refused (d ∙ y.2) ∙ sym (missed k (j, end, l, h) (or_tells t))
+      let y = none (find end) (refused_one past (or_no_such (find end)) (sym (t end (Err stop) h.below h.halts))) in
+      ap refused y.2 ∙ sym (missed k (j, end, l, h) (or_tells t))
 
 -- where a step has one answer at each byte, so has a walk: what `count_any_to_stop` and `skip_any`
 -- promise of it fixes the result

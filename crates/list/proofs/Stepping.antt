@@ -76,7 +76,7 @@ pub record Tells {A : Type 0} (step : ℕ → Answer ℕ) (find : ℕ → Answer
   pub on : (at next : ℕ) → step at ≡ accepted next → (x : A) × (find at ≡ accepted x) × (next ≡ past x)
   pub off : (at : ℕ) (r : Refusal) → step at ≡ refused r → (y : Refusal) × (find at ≡ refused y)
 
-accepted_one : {A : Type 0} (past : A → ℕ) (a : Answer A) {next : ℕ} → giving past a ≡ accepted next
+pub accepted_one : {A : Type 0} (past : A → ℕ) (a : Answer A) {next : ℕ} → giving past a ≡ accepted next
     → (x : A) × (a ≡ accepted x) × (next ≡ past x)
 accepted_one past (accepted x) {next} e = (x, refl, cc)
 accepted_one past (refused r) e = absurd (not_both e refl)
